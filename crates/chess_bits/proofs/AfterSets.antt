@@ -1,6 +1,7 @@
--- The board after a move, from the sets before it: occupied are the squares that the move fills, and those that were
--- occupied and that it does not change; the enemy's pieces are those on squares that it does not change
--- (`later_after`). And check is an attack on the king's square, where that is known (`check_is`).
+-- The board after a move, from the sets before it (later_after: `IsLater`): occupied are the squares that the move
+-- fills, and those that were occupied and that it does not change; the enemy's pieces are those on squares that it does
+-- not change. By cases of a square: where the mover or the castling rook arrives, what a piece leaves, or neither. And
+-- check is an attack on the king's square, where that is known (check_is).
 use mathlib.Core.Bool.{and-true}
 use Rattle.std.proofs.Common.{◌≡◌, ℕ, ◌<◌, inl, inr, Bool, true, false, not, ◌&&◌, ◌||◌, ◌==◌, cond, refl, Option, Some, None, is_none}
 use Rattle.std.proofs.lemmas.Bool.{and_right, cases_Bool, eqb-true, eq-eqb}
@@ -21,7 +22,8 @@ filled_by false true l a k c h = refl
 filled_by false false true a k c h = and_right (not (is_none k)) false refl
 filled_by false false false a k c h = and-true (not (is_none k))
 
--- it has an enemy piece (of colour d) if it had one and nothing changes there
+-- the square has an enemy piece (of colour d, which neither mover nor rook is) after the move exactly if it had one and
+-- nothing changes there
 pub kept_by : (t r l : Bool) (a k : Option Man) (c d : Colour) (kind : Kind)
     → is_man d kind a ≡ false → is_man d kind (Some (record { colour = c; kind = Rook })) ≡ false
     → (is_man d kind k && not (t || r || l))
@@ -32,7 +34,7 @@ kept_by false true l a k c d x h e = rw e (and_right (is_man d x k) false refl)
 kept_by false false true a k c d x h e = and_right (is_man d x k) false refl
 kept_by false false false a k c d x h e = and-true (is_man d x k)
 
--- where the king's square is known, a check is an attack on it
+-- if colour c has its one king on the square `king`, it is in check exactly if that square is attacked
 pub check_is : (men : Men) (c : Colour) (king : ℕ) → king < 64
     → ((k : ℕ) → k < 64 → is_man c King (man_at men k) ≡ (k == king))
     → is_in_check men c ≡ is_attacked men king (other c)
@@ -50,7 +52,8 @@ check_is men c king l one =
           ]))
     ]
 
--- so the occupied squares and the enemy's pieces after move m come from the squares that it changes and fills
+-- if `changed` and `filled` are the squares that move m changes and fills, the occupied squares and the enemy's pieces
+-- after it follow from them (`IsLater`); what arrives is a piece, and not the enemy's
 pub later_after : (p : Setup) (m : Move) (changed filled : ℕ)
     → is_none (arriving_man (man_at p.men m.from) m.promotion) ≡ false
     → is_of (other p.side) (arriving_man (man_at p.men m.from) m.promotion) ≡ false

@@ -1,6 +1,7 @@
--- Who attacks square b, found from b outwards: a piece on a attacks b exactly if one of its kind on b would attack a, a
--- pawn exactly if one of the other colour would. So `attackers` takes the tables' sets for b, and of each the squares
--- that hold pieces of the kind.
+-- Who attacks square b, found from b outwards: a piece on a attacks b exactly if its kind on b would attack a, for a
+-- pawn a pawn of the other colour (attackers_are: by cases of the content of a, on the sets that `attackers` joins).
+-- For lines: the two rays of a line together (both_rays), two kinds of lines together (on_lines, on_diagonals). A
+-- square is attacked exactly if its set of attackers isn't empty (attacked_is).
 use Rattle.std.proofs.Common.{◌≡◌, ℕ, ◌<◌, Bool, true, false, not, ◌&&◌, ◌||◌, ◌==◌, refl, ◌∙◌, arith, Option, Some, None, is_none, eqb-true}
 use Rattle.std.proofs.lemmas.Bool.Decides.{nat_tests}
 use Rattle.chess_base.specs.{declared.man.Colour.Colour, declared.man.Colour.TheVariants.White, declared.man.Colour.TheVariants.Black, declared.man.Kind.Kind, declared.man.Man.Man, shared.Splits.could_capture_as, declared.line.Line.Line, shared.Lines.line_number, shared.Lines.same_line}
@@ -21,13 +22,13 @@ pub both_rays : (l : Line) (a b : ℕ) (o : Bool)
     → ((is_on_ray l true b a && o) || (is_on_ray l false b a && o)) ≡ (not (a == b) && same_line l a b && o)
 both_rays l a b o = rw (eqb_comm (line_number l a) (line_number l b)) (grind (arith, nat_tests))
 
--- both kinds of lines of a rook together, and those of a bishop
+-- rank and file together: another square of a's rank or file, where o holds
 pub on_lines : (a b : ℕ) (o : Bool)
     → ((not (a == b) && same_line Rank a b && o) || (not (a == b) && same_line File a b && o))
     ≡ (not (a == b) && share_rank_or_file a b && o)
 on_lines a b o = grind arith
 
--- the same for the two diagonals of a bishop
+-- diagonal and antidiagonal together: another square of a's diagonals, where o holds
 pub on_diagonals : (a b : ℕ) (o : Bool)
     → ((not (a == b) && same_line Diagonal a b && o) || (not (a == b) && same_line Antidiagonal a b && o))
     ≡ (not (a == b) && share_diagonal a b && o)
@@ -70,14 +71,14 @@ hit l d k n p s kind =
 pub queen_parts : (e l d o : Bool) → ((e && l && o) || (e && d && o)) ≡ (e && (l || d) && o)
 queen_parts e l d o = grind arith
 
--- the same for square a, seen from b
+-- whether `attackers` for b has square a, with a piece of this kind on it; s: it is of colour c, which is asked for
 abbrev seen : Men → Colour → ℕ → ℕ → Bool → Kind → Bool
 seen men c a b s kind =
     hit (not (a == b) && share_rank_or_file a b && is_clear men a b)
     (not (a == b) && share_diagonal a b && is_clear men a b)
     (in_shape shape.King b a) (in_shape shape.Knight b a) (in_shape (shape.Pawn (other c)) b a) s kind
 
--- so it has a exactly if a piece of this kind on a, of colour c, could capture on b
+-- it has square a exactly if s holds, and this kind, of colour c, on a could capture on b
 seen_kind : (men : Men) (c : Colour) (a b : ℕ) (s : Bool) (kind : Kind)
     → seen men c a b s kind ≡ (s && could_capture men c kind a b)
 unfolding could_capture
@@ -88,7 +89,7 @@ seen_kind men c a b s Bishop = grind arith
 seen_kind men c a b s Knight = grind (arith, knight_back men c a b)
 seen_kind men c a b s Pawn = grind (arith, pawn_back men c a b)
 
--- where a piece is of colour c, it captures as one of colour c
+-- where the colours c and d are the same, a piece of the one captures as a piece of the other
 own_reach : (men : Men) (c d : Colour) (kind : Kind) (a b : ℕ) → (same_colour c d && could_capture men c kind a b)
     ≡ (same_colour c d && could_capture men d kind a b)
 own_reach men White White kind a b = refl
@@ -108,7 +109,7 @@ attackers_are men c a b None = seen_kind men c a b false King
 attackers_are men c a b (Some x) = seen_kind men c a b (same_colour c x.colour) x.kind
     ∙ own_reach men c x.colour x.kind a b
 
--- a square is attacked where its set of attackers is not empty
+-- if w has just the squares from which pieces of colour c attack b, b is attacked exactly if w is not empty
 pub attacked_is : (w : ℕ) (men : Men) (b : ℕ) (c : Colour)
     → ((k : ℕ) → k < 64 → contains w k ≡ (is_of c (man_at men k) && attacks men k b))
     → not (not (some_square (λ k. contains w k))) ≡ is_attacked men b c

@@ -1,5 +1,7 @@
--- The squares between two squares of one line: those on the ray up from the lower and on the ray down from the higher
--- one. The table has them for each two squares; a line is open if none of them is occupied.
+-- The squares between two squares of one line are those on the ray up from the lower and on the ray down from the
+-- higher one, joined for all four kinds of lines, of which the two share one (on_some_line). An entry written so keeps
+-- the table right (paired_more). Two squares of one rank, file or diagonal have a line of some kind, so the table has
+-- what is between them (by_line), and that line is open exactly if no square between is occupied (open_between).
 use Rattle.std.proofs.Common.{◌≡◌, ℕ, ◌+◌, ◌*◌, ◌/◌, ◌%◌, ◌<◌, ◌≤◌, inl, inr, Bool, true, false, not, ◌&&◌, ◌||◌, refl, sym, ap, ◌∙◌, arith, List, length, get_or, set, get_or-set_same, get_or-set_other, [], ◌∷◌}
 use Rattle.std.specs.List.{list_any, list_all}
 use Rattle.std.proofs.{lemmas.Bool.Decides.nat_tests, lemmas.Bool.cases_Bool, lemmas.Bool.cases_eq, lemmas.Bool.or_cases}
@@ -52,7 +54,8 @@ abbrev pub AreBetween : List ℕ → ℕ → Type 0
 AreBetween sets n = (l : Line) (a b k : ℕ) → a < 64 → b < 64 → 64 * a + b < n → same_line l a b ≡ true → k < 64
     → contains (get_or sets (64 * a + b) 0) k ≡ is_between a b k
 
--- one more entry is right if what is written there is
+-- if the entry with the index i is written with the squares between its two squares, x and y, the entries up to it are
+-- right
 pub paired_more : (sets : List ℕ) (i v x y : ℕ) → i < length sets → x ≡ i / 64 → y ≡ i % 64
     → ((l : Line) → same_line l x y ≡ true → (k : ℕ) → k < 64 → contains v k ≡ is_between x y k)
     → AreBetween sets i → AreBetween (set sets i v) (i + 1)
@@ -105,7 +108,7 @@ by_line a b v k la lb on made =
           ]
     ]
 
--- a line is open where nothing occupied is between
+-- if u are the squares of w between a and b, two squares of one line, that line is open exactly if u is empty
 pub open_between : (w a b u v : ℕ) (t : Bool) → a < 64 → b < 64 → are_on_line b a ≡ true
     → ((l : Line) → same_line l a b ≡ true → (k : ℕ) → k < 64 → contains v k ≡ is_between a b k)
     → ((k : ℕ) → contains u k ≡ (contains v k && contains w k))

@@ -1,5 +1,7 @@
--- A sweep from a along a ray is that ray without the ray that goes on from its first blocker f: so it is the open part
--- of the ray, with f (`swept_to`). In these lemmas w are the occupied squares.
+-- A sweep from a along a ray is that ray without the ray that continues from its first blocker f: so it is the open
+-- part of the ray, with f (swept_to). With a blocker, a square of the ray is open exactly if it does not come after f
+-- (open_to_first); without one, f is the board's last square, and the whole ray is open (swept_all). In these lemmas w
+-- are the occupied squares.
 use mathlib.Core.Bool.{and-true}
 use Rattle.std.proofs.Common.{◌≡◌, ◌==◌, ℕ, zero, suc, ◌<◌, inl, inr, Bool, true, false, not, ◌&&◌, ◌||◌, nat_lt, refl, sym, ap, ◌∙◌, arith}
 use Rattle.std.proofs.lemmas.Bool.Decides.{nat_tests}
@@ -76,7 +78,7 @@ open_to_first l up a b w f h on here nearer e =
           (rw both.0 at clear))))
     ]
 
--- so the ray without the ray from f is its open part
+-- if f is the first blocker, the ray from a without the ray from f is the open part of the ray from a
 pub swept : (l : Line) (up : Bool) (a b w f : ℕ)
     → f < 64
     → is_on_ray l up a f ≡ true
@@ -89,7 +91,7 @@ swept l up a b w f h on here nearer =
       | inr n ↦ rw n refl
     ]
 
--- without a blocker the whole ray is open
+-- without a blocker the ray from a is its own open part
 pub swept_all : (l : Line) (up : Bool) (a b w : ℕ)
     → ((x : ℕ) → x < 64 → (is_on_ray l up a x && contains w x) ≡ false)
     → is_on_ray l up a b ≡ (is_on_ray l up a b && is_open w a b)

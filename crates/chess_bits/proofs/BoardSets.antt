@@ -1,4 +1,6 @@
--- When one square changes, the sets of one colour change by that square, and those of the other colour stay.
+-- When the content of one square changes: the sets of a colour stay if no piece of it left or came (kinds_kept,
+-- all_kept), and the set of all its pieces gains or loses that square if one came or left (all_put, all_lift). The rest
+-- is of colours (theirs_of, own_of) and of writes to one square, of which the last holds (set_twice, cleared).
 use mathlib.Core.Bool.{and-true, and-false, or-true, or-false}
 use Rattle.std.proofs.Common.{◌≡◌, ℕ, ◌<◌, inl, inr, true, false, not, ◌&&◌, ◌||◌, ◌==◌, refl, sym, ◌∙◌, ap, arith, Option, Some, None, List, [], ◌∷◌, zero, suc, length, get_or, set, get_or-set_same, get_or-set_other}
 use Rattle.std.proofs.{lemmas.Bool.cases_eq, lemmas.Bool.eq-eqb, lemmas.Bool.ne_eqb, lemmas.List.set-get_or}
@@ -8,7 +10,8 @@ use Rattle.chess_moves.specs.Sets.{contains}
 use Rattle.chess_base.proofs.{shared.Changes.not_same_other, shared.Men.not_is_man, shared.Men.is_of-none, shared.Men.same_colour-self}
 use Rattle.chess_bits.specs.ties.KindSets.{IsAll, IsKinds}
 
--- the sets of a colour none of whose pieces came or went
+-- the sets of a colour's kinds stay right when the content of square s becomes o, if neither the old content nor o is a
+-- piece of this colour
 pub kinds_kept : (sets : List ℕ) (men : Men) (c : Colour) (s : ℕ) (o : Option Man) → length men ≡ 64 → s < 64
     → is_of c (man_at men s) ≡ false → is_of c o ≡ false → IsKinds sets c men → IsKinds sets c (set men s o)
 kinds_kept sets men c s o all ls was is h = record { of_kind = at }
@@ -22,7 +25,8 @@ kinds_kept sets men c s o all ls was is h = record { of_kind = at }
           | inr away ↦ rw (get_or-set_other men s k o None away) (h.of_kind y k l)
         ]
 
--- the set of all its pieces stays, too
+-- the set of all pieces of a colour stays right when the content of square s becomes o, if neither the old content nor
+-- o is a piece of this colour
 pub all_kept : (w : ℕ) (men : Men) (c : Colour) (s : ℕ) (o : Option Man) → length men ≡ 64 → s < 64
     → is_of c (man_at men s) ≡ false → is_of c o ≡ false → IsAll w c men → IsAll w c (set men s o)
 all_kept w men c s o all ls was is h = λ k l.
@@ -32,7 +36,7 @@ all_kept w men c s o all ls was is h = λ k l.
       | inr away ↦ rw (get_or-set_other men s k o None away) (h k l)
     ]
 
--- if a piece of this colour comes to s, the set of all gets s
+-- if a piece of this colour comes to s, the set of all pieces with s added is right
 pub all_put : (w v : ℕ) (men : Men) (c : Colour) (s : ℕ) (o : Option Man) → length men ≡ 64 → s < 64 → is_of c o ≡ true
     → ((j : ℕ) → contains v j ≡ (contains w j || (j == s))) → IsAll w c men → IsAll v c (set men s o)
 all_put w v men c s o all ls own made h = λ k l.
@@ -42,7 +46,7 @@ all_put w v men c s o all ls own made h = λ k l.
       | inr away ↦ rw (get_or-set_other men s k o None away, made k, ne_eqb k s away, or-false (contains w k)) (h k l)
     ]
 
--- if one leaves s, the set of all loses s
+-- if square s is emptied, the set of all pieces of a colour without s is right
 pub all_lift : (w v : ℕ) (men : Men) (c : Colour) (s : ℕ) → length men ≡ 64 → s < 64
     → ((j : ℕ) → j < 64 → contains v j ≡ (contains w j && not (j == s))) → IsAll w c men → IsAll v c (set men s None)
 unfolding is_of

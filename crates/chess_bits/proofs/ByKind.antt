@@ -1,5 +1,8 @@
--- Which moves are legal, by the kind of the piece that goes; and from which squares pieces of a kind go legally to a
--- square. Pseudo-legal moves that change only their two squares (`StepsPlainly`) get a short test of the king's safety.
+-- By the kind of a piece (officer, pawn, king): which of its moves are pseudo-legal (officer_pattern, pawn_pattern,
+-- man_pattern), and that officers' moves and pawns' but to the target change only their two squares (`StepsPlainly`:
+-- officer_plain, pawn_plain), so that a short test of the king's safety is enough. From that, the legal starts of
+-- officers to a square (officer_starts_are). A king goes by a step or by castling (king_otherwise), from its one square
+-- (king_start).
 use mathlib.Core.Bool.{and-false, and-true}
 use Rattle.std.proofs.Common.{◌≡◌, ℕ, ◌<◌, inl, inr, Bool, true, false, not, ◌&&◌, ◌||◌, ◌==◌, Option, Some, None, refl, sym, ap, ◌∙◌, is_some}
 use Rattle.std.proofs.lemmas.Bool.{and_parts, and_from, and_left, and_right, cases_Bool, eqb-true, not-true, or_parts}
@@ -13,7 +16,8 @@ use Rattle.chess_bits.specs.{ties.Changes.StepsPlainly, ties.Goes.goes, ties.Goe
 use Rattle.chess_bits.proofs.{OriginsOf.back, OriginsOf.officer_attacks, TargetsOf.man_told, TargetsOf.steps_of_man, TargetsOf.no_king_castles}
 use Rattle.chess_bits.proofs.Patterns.{fits_low, not_fitting, not_promoting, officer_goes, pattern_by, pawn_goes}
 
--- a move of a piece other than a pawn is pseudo-legal exactly if the piece moves or castles so
+-- a move without a promotion of a piece other than a pawn is pseudo-legal exactly if it is a pseudo-legal castling or,
+-- where it is no castling, an ordinary move (`man_moves`)
 pub man_pattern : (p : Setup) (kind : Kind) (a b : ℕ) → is_man p.side kind (man_at p.men a) ≡ true
     → same_kind Pawn kind ≡ false → a < 64 → b < 64
     → castles_or_moves p (move_of a b None) (castle_of p (move_of a b None)) ≡ is_pseudo_legal p (move_of a b None)
@@ -24,7 +28,8 @@ man_pattern p kind a b man no_pawn low high =
     ∙ ap (λ w. goes p a b && promotion_fits w None) (not_promoting p a b _ at no_pawn)
     ∙ and-true (goes p a b))
 
--- an officer's move is so exactly if the officer attacks the square, and no own piece is there
+-- an officer's move without a promotion is pseudo-legal exactly if the officer attacks the end square, and no own piece
+-- is there
 pub officer_pattern : (p : Setup) (kind : Kind) (a b : ℕ) → IsOfficer p.side kind (man_at p.men a) → a < 64 → b < 64
     → (could_capture p.men p.side kind a b && not (is_of p.side (man_at p.men b))) ≡ is_pseudo_legal p (move_of a b None)
 officer_pattern p kind a b h low high =
@@ -53,7 +58,7 @@ officer_plain p kind a b h goes_so =
           (is_man-kind p.side p.side kind Pawn (man_at p.men a) parts.1 h.man);
     }
 
--- an officer promotes to nothing
+-- a move of an officer that names a promotion is not legal
 pub promotes_not : (p : Setup) (m : Move) (kind : Kind) → IsOfficer p.side kind (man_at p.men m.from)
     → is_some m.promotion ≡ true → false ≡ is_legal p m
 promotes_not p m kind h some =
@@ -158,7 +163,8 @@ pawn_pattern p a b pawn low high =
     unpromoted true = refl
     unpromoted false = refl
 
--- such a move changes only its two squares, if it does not go to the en passant target
+-- a pseudo-legal move of a pawn without a promotion changes only its two squares, if it does not go to the en passant
+-- target
 pub pawn_plain : (p : Setup) (a b : ℕ) → is_man p.side Pawn (man_at p.men a) ≡ true
     → is_pseudo_legal p (move_of a b None) ≡ true → is_at p.target b ≡ false → StepsPlainly p (move_of a b None)
 pawn_plain p a b pawn goes_so off = record {
@@ -179,7 +185,7 @@ pawn_left Knight h g = cc
 
 -- ---- the king
 
--- where the king has no step to a square it goes there by castling alone
+-- where the king has no step to a square, its move there is legal exactly if it is legal castling
 pub king_otherwise : (p : Setup) (a b : ℕ) → is_man p.side King (man_at p.men a) ≡ true → a < 64 → b < 64
     → man_moves p (move_of a b None) ≡ false
     → legal_or p (move_of a b None) (castle_of p (move_of a b None)) false ≡ is_legal p (move_of a b None)

@@ -1,5 +1,7 @@
--- Castling with a right that is there: in normal chess the king is at home, and in both variants the king's move to the
--- square that names this castling (`named_square`) is this castling, with its four squares (`castle_told`).
+-- Castling with a right that is there, in a sound position. In normal chess the king is at home (at_home). In both
+-- variants the king's move to the square that names this castling (`named_square`) is this castling, with its four
+-- squares (castle_told), since it doesn't name the one to the other side; and only this square names it
+-- (castles_onto_end).
 use mathlib.Core.Bool.{and-false, and-true}
 use Rattle.std.proofs.Common.{◌≡◌, inl, inr, ℕ, ◌<◌, Bool, true, false, ◌&&◌, ◌==◌, Option, Some, None, refl, sym, ap, ◌∙◌, arith, option_and_then}
 use Rattle.std.specs.Option.{option_map, option_map_or}
@@ -12,7 +14,7 @@ use Rattle.chess_base.proofs.{shared.Castling.right_is_sound_of, shared.Castling
 use Rattle.chess_bits.specs.ties.Goes.{names_end, castles_onto}
 use Rattle.chess_bits.proofs.OneKing.{alone}
 
--- king and rook of the right are where castling begins
+-- in normal chess, with a right to castle, king and rook are on the squares where this castling begins
 pub stands : (p : Setup) (w : CastlingSide) (rook : ℕ) → IsSound p → p.variant ≡ Normal
     → right_of p.rights p.side w ≡ Some rook → are_placed_for_castling Normal p.men p.side w rook ≡ true
 unfolding right_is_sound
@@ -75,7 +77,8 @@ not_near p a rook None at near far = refl
 not_near p a rook (Some r) at near far =
     and_right (a == a) _ (ends_differ p.variant p.men p.side a r rook at near far)
 
--- so in a sound position it is none on the king's side
+-- in a sound position the king's move to the square that names castling on the queen's side is no castling on the
+-- king's side
 other_side : (p : Setup) (w : CastlingSide) (a b rook : ℕ) → IsSound p → right_of p.rights p.side w ≡ Some rook
     → king_square p.men p.side ≡ Some a → b ≡ named_square p.variant (castle_from p.side w a rook) → w ≡ QueenSide
     → is_by p (move_of a b None) KingSide ≡ false
@@ -87,7 +90,8 @@ other_side p QueenSide a b rook sound right at end far =
     (placed_for_right p.variant p.men p.side QueenSide (right_of p.rights p.side QueenSide) rook
     (right_is_sound_of p sound p.side QueenSide) right))
 
--- so the king's move to the square b that names castling on side w has the squares of this castling
+-- the king's move from a to the square b that names castling on side w, to which the right is there, is castling with
+-- the squares of `castle_from`
 pub castle_told : (p : Setup) (w : CastlingSide) (a b rook : ℕ) → IsSound p → right_of p.rights p.side w ≡ Some rook
     → is_man p.side King (man_at p.men a) ≡ true → b ≡ named_square p.variant (castle_from p.side w a rook)
     → castle_of p (move_of a b None) ≡ Some (castle_from p.side w a rook)
@@ -99,7 +103,7 @@ castle_told p w a b rook sound right king end =
     ∙ ap (option_and_then (castling_on p)) (found p (move_of a b None) w here (other_side p w a b rook sound right at end))
     ∙ on
 
--- that a square names this castling, as a test, and computed
+-- a square passes the test `names_end` exactly if it is the square computed by `named_square`
 end_is : (v : Variant) (c : Colour) (w : CastlingSide) (a rook k : ℕ)
     → names_end v c w (Some rook) k ≡ (k == named_square v (castle_from c w a rook))
 end_is Normal c w a rook k = refl

@@ -1,6 +1,7 @@
--- Castling tested by sets: king and rook each go along one rank, so the table has the squares on their ways. The
--- castling is pseudo-legal exactly if no other piece is met on these, and no square of the king's way is attacked
--- (`castle_pattern`).
+-- Castling tested by sets. King and rook each go along one rank (on_rank), so the table has the squares on their ways.
+-- The ways are empty if no other piece is met on them (way_is_empty), and the king's way is safe if no square of it is
+-- attacked (way_is_safe); a castling is pseudo-legal exactly if both hold (castle_pattern). What it changes on the
+-- board follows from its four squares (castle_steps).
 use Rattle.chess_base.proofs.{shared.Squares.each_square_same, shared.Changes.no_en_passant, shared.Men.in_board, shared.Men.is_man-kind, shared.Parts.castling_way_is_empty_by}
 use mathlib.Core.Bool.{and-true}
 use Rattle.std.proofs.Common.{◌≡◌, ℕ, ◌<◌, Bool, true, false, not, ◌&&◌, ◌||◌, ◌==◌, Option, Some, None, is_none, refl, sym, ap, subst, ◌∙◌, arith}
@@ -61,7 +62,7 @@ pub record OnRank (k : Castle) : Type 0 where
   pub kings : rank k.king_from ≡ rank k.king_to
   pub rooks : rank k.rook_from ≡ rank k.rook_to
 
--- each castling in a sound position is so
+-- in each castling of a sound position king and rook each end on the rank where they start
 on_rank_by : (p : Setup) (m : Move) (k : Castle) → IsSound p → castle_of p m ≡ Some k → (o : Option CastlingSide)
     → castling p m ≡ o → OnRank k
 unfolding right_is_sound
@@ -106,7 +107,7 @@ way_is_empty men k met h =
     (λ x low. crossed (is_on_way k.king_from k.king_to x) (is_on_way k.rook_from k.rook_to x) (x == k.king_from)
     (x == k.rook_from) (is_none (man_at men x)) ∙ ap not (sym (h x low))))
 
--- of the squares of the set w none passes q
+-- no member of the set w passes q exactly if each square is outside w or fails q
 pub none_of : (q : ℕ → Bool) (w : ℕ)
     → not (list_any q (members w)) ≡ each_square (λ x. not (contains w x) || not (q x))
 unfolding members some_square
@@ -147,7 +148,7 @@ castle_pattern_by p a b k sound high e =
     ∙ officer_goes p a b _ at refl refl low high
     ∙ ap (castles_or_moves p (move_of a b None)) e
 
--- so for each move that is castling and names no promotion
+-- a move that is castling and names no promotion is pseudo-legal exactly if its way is empty and safe
 pub castle_pattern : (p : Setup) (m : Move) (k : Castle) → IsSound p → m.to < 64 → m.promotion ≡ None
     → castle_of p m ≡ Some k
     → is_pseudo_legal p m ≡ (castling_way_is_empty p.men k && castling_way_is_safe p.men p.side k)
@@ -155,7 +156,7 @@ castle_pattern p m k sound high none e =
     ap (λ o. is_pseudo_legal p (move_of m.from m.to o)) none
     ∙ castle_pattern_by p m.from m.to k sound high (ap (λ o. castle_of p (move_of m.from m.to o)) (sym none) ∙ e)
 
--- what castling changes on the board, by its four squares
+-- what a castling changes on the board (`steps_of`), given by its four squares
 pub castle_steps : (p : Setup) (m : Move) (k : Castle) → castle_of p m ≡ Some k → m.promotion ≡ None
     → record {
       from = m.from;

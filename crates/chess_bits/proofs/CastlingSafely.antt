@@ -1,5 +1,7 @@
--- Castling in normal chess opens no line to the square where the king ends: what attacks it afterwards attacked it
--- before. So a castling that nothing prevents is legal (castles_safely).
+-- In normal chess a castling whose way is empty and safe is legal (castles_safely): it opens no line to the square
+-- where the king ends, so what attacks that square afterwards attacked it before. Shown for the home squares of each
+-- colour and side: if the king's start is between that square and another one, so is the rook's end, and the rook's
+-- start is never between.
 use Rattle.std.proofs.Common.{◌≡◌, ℕ, ◌<◌, inl, inr, Bool, true, false, not, ◌&&◌, ◌||◌, ◌==◌, cond, Option, Some, None, is_none, refl, sym, ap, ◌∙◌, arith}
 use Rattle.std.proofs.lemmas.Bool.Decides.{nat_tests}
 use Rattle.std.proofs.lemmas.Bool.{and_parts, or_left, or_right, both_ways, cases_Bool, eqb-true, eq-eqb, false_from_ne_true}
@@ -69,12 +71,13 @@ abbrev Castled : Men → Men → ℕ → ℕ → ℕ → ℕ → Option Man → 
 Castled men later t r f a king rook = (s : ℕ) → s < 64
     → man_at later s ≡ cond (t == s) king (cond (r == s) rook (cond ((f == s) || (a == s)) None (man_at men s)))
 
--- the rook is then on r
+-- if `later` are the pieces after castling, the rook is on r, its end square, in `later`
 rook_stands : (men later : Men) (t r f a : ℕ) (king rook : Option Man) → Castled men later t r f a king rook
     → (t == r) ≡ false → r < 64 → man_at later r ≡ rook
 rook_stands men later t r f a king rook after apart low = after r low ∙ rw (apart, eq-eqb r r refl) refl
 
--- if the way from b to t is clear afterwards it was clear before: f is not on it, and if a is, so is r with the rook
+-- if the way from b to the king's end t is clear after castling, it was clear before: the rook's start f is not on it;
+-- and if the king's start a were on it, the rook's end r would be too, where the rook then is
 clear_stood : (men later : Men) (t r f a b : ℕ) (king rook : Option Man) → Castled men later t r f a king rook
     → is_none rook ≡ false → (t == r) ≡ false → r < 64
     → (is_between b t a ≡ true → is_between b t r ≡ true) → is_between b t f ≡ false → is_clear later b t ≡ true
@@ -106,7 +109,7 @@ clear_stood men later t r f a b king rook after some apart low past beyond clear
           rw inside (ap is_none (sym same) ∙ now)
     ])
 
--- so the king's end t, if it was not attacked, is not attacked afterwards
+-- the king's end t, if it was not attacked before castling, is not attacked afterwards
 still_safe : (men later : Men) (c : Colour) (t r f a : ℕ) (king rook : Option Man) → Castled men later t r f a king rook
     → is_none rook ≡ false → is_of c king ≡ false → is_of c rook ≡ false → (t == r) ≡ false → r < 64
     → ((b : ℕ) → is_between b t a ≡ true → is_between b t r ≡ true) → ((b : ℕ) → is_between b t f ≡ false)
@@ -169,7 +172,7 @@ safe_by p m w r sound normal says right e pattern safe =
     (λ b. ap (λ y. is_between b t y) home.1 ∙ past_rook p.side w b)
     (way_end p.men p.side k safe (home_square-below p.side (castled_king_file w) (castled_king_file-below w)))
 
--- for each castling, to whichever side
+-- in normal chess the king's end is not attacked after castling, to whichever side
 by_side : (p : Setup) (m : Move) (k : Castle) → IsSound p → p.variant ≡ Normal → castle_of p m ≡ Some k
     → is_pseudo_legal p m ≡ true → castling_way_is_safe p.men p.side k ≡ true
     → (o : Option CastlingSide) → castling p m ≡ o → (is_attacked (men_after p m) k.king_to (other p.side) ≡ false)

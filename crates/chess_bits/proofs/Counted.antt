@@ -1,5 +1,6 @@
--- Numbers of legal moves: some pieces have no more than all pieces, and so at most as many as a list holds (896); and
--- there is a legal move if one piece has one.
+-- Numbers of legal moves. Some pieces have no more than all pieces, by induction over the squares, so at most as many
+-- as a list holds (some_fit: 896). If some pieces, or the piece on one square, have a legal move, there is one
+-- (some_of, some_from). Of joined lists one has an element exactly if the whole has (any_of).
 use Rattle.std.proofs.Common.{◌≡◌, ℕ, suc, ◌+◌, ◌≤◌, inl, inr, Bool, true, ◌||◌, List, [], ◌∷◌, ◌++◌, length, refl, sym, ap, ◌∙◌, length-append, nat_lt, ◌<◌, arith}
 use Rattle.std.proofs.lemmas.Bool.{cases_Bool, lt-ltb, ltb-true}
 use Rattle.std.specs.List.{filter, flat_map, list_any}
@@ -32,7 +33,7 @@ some_of p w h =
     let some : 0 < length (flat_map (λ a. moves_from p a) (filter (λ k. contains w k) squares)) = ltb-true _ _ h in
     sym (lt-ltb 0 (length (moves p)) (omega (arith, less, all, some)))
 
--- these pieces have no more legal moves than a list holds
+-- the pieces on the squares of w have no more legal moves than a list holds
 pub some_fit : (p : Setup) (w : ℕ) → IsSound p → length (flat_map (λ a. moves_from p a) (members w)) ≤ 896
 unfolding members
 some_fit p w sound =

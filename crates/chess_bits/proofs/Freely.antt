@@ -1,6 +1,8 @@
--- Free pieces: their king is not attacked even with the piece taken off the board, so their pseudo-legal moves are
--- legal (but perhaps en passant). If such a piece is ordinary too, each square to which it goes gives one legal move.
--- The last part says which pieces are free.
+-- Each pseudo-legal move of a free piece (`IsFree`: its king is not attacked even with the piece taken off the board)
+-- is legal, promotions and en passant left aside (free_is_legal, by stays_safe of Quiet). If it is ordinary too, which
+-- is no pawn or one that neither promotes nor takes en passant (ordinary_from), each square to which it goes gives one
+-- legal move (free_listed). Without check, a piece other than the king is free if no line to the king opens when it
+-- leaves (freed).
 use Rattle.std.proofs.Common.{◌≡◌, ℕ, ◌+◌, ◌<◌, ◌≤◌, ◌⊎◌, inl, inr, Bool, true, false, not, ◌&&◌, ◌||◌, ◌==◌, Option, Some, None, cond, [], ◌∷◌, map, refl, sym, ap, ◌∙◌, subst, arith}
 use Rattle.std.proofs.lemmas.Bool.{and_parts, and_from, and_right, or_cases, or_left, or_right, or_parts, eqb-false, eqb-true, eq-eqb, ne_eqb, cases_Bool, and_left}
 use Rattle.chess_base.specs.{declared.man.Colour.Colour, declared.man.Colour.TheVariants.White, declared.man.Colour.TheVariants.Black, declared.man.Kind.Kind, declared.man.Man.Man, declared.man.Move.Move, declared.setup.Setup.Setup, shared.Parts.is_rank_ahead, shared.Splits.could_capture_as, Castling.castle_of, MoveList.move_of, Sound.IsSound, Sound.no_pawn_on_end_ranks}
@@ -105,7 +107,8 @@ pawn_ordinary p a sound low pawn no_target off = record {
               (is_of (other p.side) (man_at p.men b) || is_at p.target b) takes).0).1
         ]
 
--- the same from the code's test of the piece: no pawn, or one that does not go specially
+-- a piece that passes the code's test is ordinary: it is no pawn, or one that is not on the last rank but one and does
+-- not attack the target
 pub ordinary_from : (p : Setup) (a : ℕ) → IsSound p → a < 64
     → (is_man p.side Pawn (man_at p.men a) && (aims_at p.target p.side a || (rank a == pawn_rank (other p.side))))
     ≡ false → IsOrdinary p a
@@ -129,7 +132,8 @@ free_between p a b king sound free ordinary low high there one go =
     ∙ ap (λ t. cond t (move_of a b None ∷ []) [])
     (free_is_legal p a b king sound free low there one go stays (ordinary.passes b))
 
--- so its legal moves are one to each square of w, the set of its targets
+-- if w is the set of its targets (it goes to each, and each legal move of it ends on one), a free and ordinary piece
+-- has one legal move to each square of w
 pub free_listed : (p : Setup) (a king w : ℕ) → IsSound p → IsFree p a → IsOrdinary p a → a < 64 → king < 64
     → ((k : ℕ) → k < 64 → is_man p.side King (man_at p.men k) ≡ (k == king))
     → ((k : ℕ) → k < 64 → contains w k ≡ true → goes p a k ≡ true)

@@ -1,5 +1,7 @@
--- Where a piece is put on an empty square, or taken from its square, the set of its kind changes by that square, and
--- those of the other kinds stay.
+-- The sets of a colour's six kinds stay right when a piece is put on an empty square, lifted, or moved (put_kinds,
+-- lift_kinds, shift_kinds): the set of its kind changes by its squares, the others stay, by cases of kind and square.
+-- And the attackers that the sets before a move give for the board after it are right once the squares that it changes
+-- are left out (left_out).
 use mathlib.Core.Bool.{and-true, and-false, or-true, or-false}
 use Rattle.std.proofs.Common.{◌≡◌, ℕ, ◌<◌, inl, inr, false, not, ◌&&◌, ◌||◌, ◌==◌, refl, sym, ap, ◌∙◌, arith, Option, Some, None, List, length, length-set, subst, get_or, set, get_or-set_same, get_or-set_other}
 use Rattle.std.proofs.lemmas.Bool.{and_left, and_right, cases_Bool, eq-eqb, ne_eqb, cases_eq}
@@ -87,7 +89,7 @@ lift_kinds sets men c x s w d six all ls there h made =
           (λ apart. made k lk ∙ rw (ne_eqb k s apart, get_or_default sets (kind_number x) d 0 in_sets) (and-true _));
     }
 
--- a piece goes from a to the empty square b
+-- a piece goes from a to the empty square b: the set of its kind loses a and gets b
 pub shift_kinds : (sets : List ℕ) (men : Men) (c : Colour) (x : Kind) (a b v w d : ℕ)
     → length sets ≡ 6 → length men ≡ 64 → a < 64 → b < 64 → man_at men a ≡ Some (record { colour = c; kind = x })
     → man_at men b ≡ None → IsKinds sets c men

@@ -1,6 +1,6 @@
--- Sums of moves: the pieces on the squares of a set have as many moves as those in a second set and those outside it
--- have together (`split`). A free officer has one legal move to each square that it attacks and no own piece holds
--- (`officer_counted`).
+-- Sums of moves: the pieces on the squares of a set w have as many moves as those in another set and those outside it
+-- have together (split, by induction over the squares). And a free officer has one legal move to each square that it
+-- attacks and no own piece holds, so they are as many (officer_counted, by free_listed of Freely).
 use Rattle.std.proofs.Common.{◌≡◌, ℕ, zero, suc, ◌+◌, ◌<◌, ◌≤◌, inl, inr, Bool, true, false, not, ◌&&◌, ◌||◌, ◌==◌, List, length, length-append, None, refl, sym, ap, ◌∙◌, arith}
 use Rattle.std.specs.List.{filter, flat_map, range_with_len}
 use Rattle.std.proofs.{lemmas.Bool.or_parts, lemmas.Bool.cases_Bool, lemmas.List.length-map}
@@ -45,7 +45,8 @@ split_range g w c u v (suc n) a fits hu hv =
           ]
     ]
 
--- so for a set w: u has its squares that are in c, v the others
+-- where u has the squares of w that are in c, and v the others of w, the lists gathered over u and over v have as many
+-- elements together as the one over w
 pub split : {A : Type 0} (g : ℕ → List A) (w c u v : ℕ) → ((k : ℕ) → contains u k ≡ (contains w k && contains c k))
     → ((k : ℕ) → k < 64 → contains v k ≡ (contains w k && not (contains c k)))
     → length (flat_map g (members u)) + length (flat_map g (members v)) ≡ length (flat_map g (members w))

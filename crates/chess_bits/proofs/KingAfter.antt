@@ -1,6 +1,6 @@
--- Where the king of the side on move is after a pseudo-legal move: where it lands if it moves (king_lands), otherwise
--- where it was (king_stays). The move is legal exactly if the king is not in check after it (legal_is), so not attacked
--- on that square (check_after).
+-- After a pseudo-legal move the mover's king is where the mover lands, if that is the king (king_lands), otherwise
+-- where it was (king_stays), since only own pieces arrive (mover_own). The move is legal exactly if its side is not in
+-- check then (legal_is), and check is an attack on the king's square (check_after): a side keeps one king.
 use Rattle.chess_base.proofs.{shared.Kings.one_king_of, shared.LegalMoves.change_of, shared.LegalMoves.one_king_after, shared.MoveKinds.moves_from_pattern, shared.Men.is_man-rook_as_king}
 use Rattle.std.proofs.Common.{◌≡◌, ℕ, ◌<◌, inl, inr, Bool, true, false, not, ◌||◌, ◌==◌, cond, count_by, Option, Some, None, is_none, refl, sym, ap, ◌∙◌, arith}
 use Rattle.std.proofs.lemmas.Bool.{and_left, cases_Bool, eqb-true}
@@ -53,7 +53,7 @@ one_after : (p : Setup) (m : Move) → IsSound p → is_pseudo_legal p m ≡ tru
 one_after p m sound pattern = one_king_after p m p.side sound.board (change_of p m sound pattern)
     (one_king_of p sound p.side)
 
--- a king that does not move stays
+-- if what arrives is no king, the king of the side on move is after the move on the square where it was
 pub king_stays : (p : Setup) (m : Move) (king : ℕ) → IsSound p → is_pseudo_legal p m ≡ true
     → ((k : ℕ) → k < 64 → is_man p.side King (man_at p.men k) ≡ (k == king))
     → is_man p.side King (arriving_man (man_at p.men m.from) m.promotion) ≡ false
@@ -79,7 +79,7 @@ king_stays p m king sound pattern one mover =
           | inr apart ↦ elsewhere p m k mover (one k low ∙ apart) low
         ]
 
--- and one that moves is where it lands
+-- if what arrives is the king of the side on move, it is after the move on the square where the mover lands
 pub king_lands : (p : Setup) (m : Move) (to : ℕ) → to ≡ mover_end p m → to < 64
     → is_man p.side King (arriving_man (man_at p.men m.from) m.promotion) ≡ true
     → is_man p.side King (man_at (men_after p m) to) ≡ true

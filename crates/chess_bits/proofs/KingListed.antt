@@ -1,5 +1,6 @@
--- The king's legal moves, listed: one to each square where a legal step or a legal castling ends, since a king doesn't
--- promote.
+-- A king's move without a promotion is legal exactly if it is a legal castling or a legal step (steps_or_castles).
+-- Since a king promotes to nothing, its legal moves are one to each square where one of them ends (king_listed), so as
+-- many as these squares (king_counted).
 use mathlib.Core.Bool.{or-false}
 use Rattle.std.proofs.Common.{◌≡◌, ℕ, ◌<◌, inl, inr, Bool, true, false, ◌&&◌, ◌||◌, Option, Some, None, cond, [], ◌∷◌, length, map, refl, sym, ap, ◌∙◌, arith}
 use Rattle.std.proofs.{lemmas.List.length-map, lemmas.Bool.cases_Bool}
@@ -9,7 +10,7 @@ use Rattle.chess_moves.proofs.shared.Members.{flat_map_members}
 use Rattle.chess_bits.specs.ties.Goes.{legal_or}
 use Rattle.chess_bits.proofs.{ByKind.king_otherwise, Listed.all_ones, Listed.each_member, Listed.one_between, Patterns.not_promoting, TargetsOf.man_told}
 
--- a king's legal move is a legal castling, or a step that is legal
+-- a king's move without a promotion is legal exactly if it is a legal castling (`end`) or a step (`step`) that is legal
 pub steps_or_castles : (p : Setup) (a b : ℕ) (end step : Bool) → is_man p.side King (man_at p.men a) ≡ true → a < 64 → b < 64
     → end ≡ legal_or p (move_of a b None) (castle_of p (move_of a b None)) false
     → step ≡ man_moves p (move_of a b None)
@@ -43,7 +44,7 @@ king_listed p a w king ends =
     (λ b low on. one_between p a b (king_stays_king p a b king)
     ∙ ap (λ t. cond t (move_of a b None ∷ []) []) (sym (ends b low) ∙ on)))
 
--- so their number is that of these squares
+-- so a king has as many legal moves as there are squares where one ends
 pub king_counted : (p : Setup) (a w : ℕ) → is_man p.side King (man_at p.men a) ≡ true
     → ((k : ℕ) → k < 64 → contains w k ≡ is_legal p (move_of a k None)) → length (members w) ≡ length (moves_from p a)
 king_counted p a w king ends = sym (ap length (king_listed p a w king ends)

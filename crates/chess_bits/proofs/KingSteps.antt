@@ -1,5 +1,7 @@
--- A king's step, a move of it that is no castling, is legal exactly if its end square is not attacked with the king
--- taken off the board (`step_is`).
+-- A king's step, to a square that it attacks and that holds no own piece, is no castling (step_no_castling), so a king
+-- goes by a step or by legal castling (king_goes). A step is legal exactly if its end is not attacked with the king
+-- taken off the board (step_is): that board and the one after the step differ on the end alone, and whether a square is
+-- attacked doesn't depend on what is on it.
 use mathlib.Core.Bool.{or-false}
 use Rattle.std.proofs.Common.{◌≡◌, ℕ, ◌<◌, inl, inr, Bool, true, false, not, ◌&&◌, ◌||◌, ◌==◌, Option, Some, None, refl, sym, ap, ◌∙◌}
 use Rattle.std.proofs.lemmas.Bool.{and_from, and_parts, and_right, both_ways, cases_Bool, eqb-true, false_from_ne_true}
@@ -34,7 +36,8 @@ clear_same men later a b h =
       | inr apart ↦ rw (h x l apart) refl
     ])
 
--- so each kind of piece could capture on b on both boards or on neither
+-- if the way from a to b is clear on both boards or on neither, each kind of piece on a could capture on b on both or
+-- on neither
 capture_same : (men later : Men) (c : Colour) (k : Kind) (a b : ℕ) → is_clear men a b ≡ is_clear later a b
     → could_capture men c k a b ≡ could_capture later c k a b
 unfolding could_capture
@@ -50,7 +53,7 @@ capture_as_same : (men later : Men) (o : Option Man) (a b : ℕ) → is_clear me
 capture_as_same men later None a b e = refl
 capture_as_same men later (Some x) a b e = capture_same men later x.colour x.kind a b e
 
--- so b is attacked on both boards or on neither
+-- if the pieces `men` and `later` differ on b alone, b is attacked on both boards or on neither
 attacked_same : (men later : Men) (b : ℕ) (c : Colour)
     → ((k : ℕ) → k < 64 → (k == b) ≡ false → man_at men k ≡ man_at later k)
     → is_attacked men b c ≡ is_attacked later b c
@@ -96,7 +99,7 @@ named_apart Fischerandom men c a b w (Some r) rook step free e =
     both_ways (is_of c (man_at men b)) free (ap (λ s. is_of c (man_at men s)) at
     ∙ is_of-from_is_man c Rook (man_at men r) (rook r refl))
 
--- so a step castles to neither side
+-- in a sound position a king's move to a square that it attacks, with no own piece there, castles to neither side
 not_said : (p : Setup) (a b : ℕ) (w : CastlingSide) → IsSound p → could_capture p.men p.side King a b ≡ true
     → is_of p.side (man_at p.men b) ≡ false
     → is_castling_to p (move_of a b None) w ≡ false
@@ -110,7 +113,7 @@ not_said p a b w sound step free =
     (and_parts (is_man p.side King (man_at p.men a))
     (names_castling p.variant p.side (move_of a b None) w (right_of p.rights p.side w)) e).1)
 
--- what a king's step is
+-- a king's step goes to a square that the king attacks and where no own piece is
 step_parts : (p : Setup) (a b : ℕ) → is_man p.side King (man_at p.men a) ≡ true → man_moves p (move_of a b None) ≡ true
     → (could_capture p.men p.side King a b ≡ true) × (is_of p.side (man_at p.men b) ≡ false)
 step_parts p a b king moves =

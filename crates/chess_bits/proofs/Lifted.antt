@@ -1,4 +1,6 @@
--- The pieces when one is taken off the board: its square is empty, and the sets of the other colour stay.
+-- When the piece on one square a is taken off the board (`lifted`): a is empty and all other squares are as before
+-- (lifted_at); so the sets of the colour that had no piece there stay (lifted_kinds), and the occupied squares lose a
+-- (lifted_occupied).
 use mathlib.Core.Bool.{and-false, and-true}
 use Rattle.std.proofs.Common.{◌≡◌, ℕ, ◌<◌, inl, inr, Bool, true, false, not, ◌&&◌, ◌==◌, cond, List, Option, None, is_none, length, get_or-set_same, get_or-set_other, refl, sym, ap, ◌∙◌, arith}
 use Rattle.std.proofs.lemmas.Bool.{cases_eq, eq-eqb, ne_eqb}
@@ -16,12 +18,12 @@ lifted_at men a k all low =
       | inr away ↦ rw (get_or-set_other men a k None None away, ne_eqb k a away) refl
     ]
 
--- the sets of the other colour stay
+-- with the piece on a taken off, the sets of the kinds of colour c stay right, if no piece of colour c is on a
 pub lifted_kinds : (sets : List ℕ) (men : Men) (c : Colour) (a : ℕ) → length men ≡ 64 → a < 64
     → is_of c (man_at men a) ≡ false → IsKinds sets c men → IsKinds sets c (lifted men a)
 lifted_kinds sets men c a all low theirs = kinds_kept sets men c a None all low theirs (none_of c None refl)
 
--- the occupied squares are then the same, but for a
+-- with the piece on a taken off, the occupied squares are the same, but for a
 pub lifted_occupied : (w v : ℕ) (men : Men) (a : ℕ) → length men ≡ 64 → a < 64 → IsOccupied w men
     → ((k : ℕ) → k < 64 → contains v k ≡ (contains w k && not (k == a))) → IsOccupied v (lifted men a)
 lifted_occupied w v men a all low stood h = record {

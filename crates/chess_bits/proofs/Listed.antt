@@ -1,5 +1,8 @@
--- Legal moves listed square by square of a set. What holds on a set's squares holds of its members; the list has room
--- for the moves of each member; and the moves of all own pieces, to all their targets, are all legal moves.
+-- Legal moves listed square by square of a set. What holds on a set's squares holds of its members (each_member); a
+-- list that has room for all moves has it for those of each member (room_for, room_onto, fits_from). Between two
+-- squares all four promotions are legal or none, elsewhere one move or none (promotions_between, one_between). The
+-- moves from a square to all its targets are all its moves (from_targets), and those of the own pieces are all legal
+-- moves (from_men).
 use Rattle.std.proofs.Common.{◌≡◌, ℕ, zero, suc, ◌+◌, ◌<◌, ◌≤◌, inl, inr, Bool, true, false, Option, Some, None, List, [], ◌∷◌, ◌++◌, length, map, take, cond, refl, sym, ap, subst, ◌∙◌, arith, length-append}
 use Rattle.std.specs.List.{filter, flat_map, range_with_len}
 use Rattle.std.proofs.{lemmas.List.length-map, lemmas.List.length-take-le, lemmas.Bool.cases_Bool, lemmas.Bool.false_from_ne_true, lemmas.Bool.both_ways}
@@ -95,13 +98,14 @@ promotions_between p a b t e h =
     ∙ all_or_none (λ m. is_legal p m) (move_of a b (Some Queen)) (move_of a b (Some Rook)) (move_of a b (Some Bishop))
     (move_of a b (Some Knight)) t (h Queen refl) (h Rook refl) (h Bishop refl) (h Knight refl)
 
--- elsewhere there is one move if it is legal, and otherwise none
+-- where no pawn would promote, the legal moves between two squares are the one without a promotion, if it is legal, and
+-- otherwise none
 pub one_between : (p : Setup) (a b : ℕ) → would_promote p a b ≡ false
     → moves_between p a b ≡ cond (is_legal p (move_of a b None)) (move_of a b None ∷ []) []
 one_between p a b e = none_promotes p a b e
     ∙ elim (cases_Bool (is_legal p (move_of a b None))) [ inl legal ↦ rw legal refl | inr not_legal ↦ rw not_legal refl ]
 
--- where none is legal there are none
+-- if no move between two squares is legal, with whatever promotion, the list of legal moves between them is empty
 pub none_there : (p : Setup) (a b : ℕ) → ((k : Option Kind) → is_legal p (move_of a b k) ≡ false)
     → moves_between p a b ≡ []
 unfolding moves_between

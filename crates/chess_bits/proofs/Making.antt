@@ -1,5 +1,7 @@
--- The fast way to make a move that only takes a piece from one square to another (`shift` of placing.rt): it gives the
--- position after the move, and saves what `saved_of` does, as the definitions say.
+-- The fast way to make a move that only takes a piece from one square to another (`Shifts`; `shift` of placing.rt):
+-- what it leaves is the position after the move (after_shift), and what it saves is `saved_of` (saved_shifting). For
+-- such a move two writes are what it changes on the board (plainly_written); rights stay if none is left, or if no king
+-- or rook moves or is taken (none_lost, rights_kept), and only a pawn leaves a target (officer_leaves_no_target).
 use mathlib.Core.Bool.{and-false}
 use Rattle.std.proofs.Common.{◌≡◌, ◌≢◌, ℕ, true, false, not, ◌&&◌, Bool, length, set, refl, sym, ap, arith, ◌∙◌, ◌||◌, ◌==◌, Option, Some, None, is_none, if◌then◌else◌, is_some}
 use Rattle.std.proofs.lemmas.Bool.{and_parts, and_left, and_right, both_ways, ne_eqb, not-true, or_parts}
@@ -16,7 +18,8 @@ use Rattle.chess_bits.proofs.{BoardSets.set_twice, Quiet.not_passing, TargetsOf.
 
 -- ---- rights
 
--- with no right left, no move loses one
+-- if neither colour has a castling right, no colour c has one to a side w (none_of), so the rights after a move are
+-- those before it (none_lost)
 none_of : (r : Rights) (c : Colour) (w : CastlingSide) → has_no_right r ≡ true → right_of r c w ≡ None
 none_of r White KingSide h = is_none-None r.white.king_side (grind (arith, h))
 none_of r White QueenSide h = is_none-None r.white.queen_side (grind (arith, h))
@@ -54,7 +57,7 @@ right_kept p m c w (Some s) sound mover taken at =
     ne_eqb m.to s (λ e. both_ways _ (no_king_or_rook c (man_at p.men m.to) taken).1 (rw e there)) in
     rw (starts.0, not_from, not_to) refl
 
--- so all rights stay
+-- all rights stay if neither the mover nor the content of the end square is a king or a rook
 rights_kept_at : (p : Setup) (m : Move) → IsSound p
     → (is_king_or_rook (man_at p.men m.from) || is_king_or_rook (man_at p.men m.to)) ≡ false
     → p.rights ≡ rights_after p m
@@ -72,7 +75,7 @@ pub rights_kept : (p : Setup) (m : Move) (x : Man) (o : Option Man) → IsSound 
     → man_at p.men m.to ≡ o → (is_king_or_rook (Some x) || is_king_or_rook o) ≡ false → p.rights ≡ rights_after p m
 rights_kept p m x o sound from to h = rights_kept_at p m sound (rw (from, to) h)
 
--- with no right left no move is castling
+-- if neither colour has a castling right, no move is castling
 no_right_says : (p : Setup) (m : Move) (w : CastlingSide) → has_no_right p.rights ≡ true → is_castling_to p m w ≡ false
 unfolding is_castling_to
 no_right_says p m w h = rw (none_of p.rights p.side w h) (and-false _)
@@ -105,7 +108,7 @@ plain_end : (p : Setup) (m : Move) → IsPlainly p m → mover_end p m ≡ m.to
 unfolding mover_end
 plain_end p m h = rw h.no_castle refl
 
--- so the pieces after it are those before with its two squares written
+-- the pieces after a plain move are those before it, with the start emptied and what arrives written on the end square
 pub plainly_written : (p : Setup) (m : Move) → length p.men ≡ 64 → IsPlainly p m
     → set (set p.men m.from None) m.to (arriving_man (man_at p.men m.from) m.promotion) ≡ men_after p m
 plainly_written p m all h =
@@ -135,7 +138,8 @@ pub record Shifts (p : Setup) (m : Move) (x : Man) : Type 0 where
   pub unpromoted : m.promotion ≡ None
   pub plainly : IsPlainly p m
 
--- what the code's test says of a move that it accepts (`shifted`)
+-- a move that the code's test `shifted` accepts takes its piece from one square to the other and changes no more
+-- (`Shifts`)
 shifts_by : (p : Setup) (m : Move) (x : Man) (o : Option Man) → man_at p.men m.from ≡ o → shifted p m o ≡ Some x
     → Shifts p m x
 shifts_by p m x None at e = cc
@@ -172,13 +176,13 @@ other_than White Black e = refl
 other_than Black White e = refl
 other_than Black Black e = cc
 
--- so a piece there is the enemy's
+-- if a square has no piece of colour c, it has one of the other colour exactly if it isn't empty
 theirs_there : (c : Colour) (o : Option Man) → is_of c o ≡ false → is_of (other c) o ≡ is_some o
 unfolding is_of
 theirs_there c None e = refl
 theirs_there c (Some x) e = other_than c x.colour e
 
--- the end square is not the start
+-- a legal move that shifts its piece does not end where it starts
 pub apart : (p : Setup) (m : Move) (x : Man) → IsSound p → is_legal p m ≡ true → Shifts p m x → m.to ≢ m.from
 apart p m x sound legal h same =
     let change = change_legal p m sound legal in
@@ -238,14 +242,14 @@ clock_is p m x sound legal h =
       theirs_there p.side (man_at p.men m.to) (not_own p m h.plainly change.rest),
     ) refl
 
--- the pieces after the move: its two squares are written
+-- the pieces after a move that shifts its piece: the start is emptied, and the piece written on the end square
 men_shifted : (p : Setup) (m : Move) (x : Man) → IsSound p → Shifts p m x
     → set (set p.men m.from None) m.to (Some x) ≡ men_after p m
 men_shifted p m x sound h =
     let lands : arriving_man (man_at p.men m.from) m.promotion ≡ Some x = rw (h.mover, h.unpromoted) refl in
     ap (λ o. set (set p.men m.from None) m.to o) (sym lands) ∙ plainly_written p m sound.board h.plainly
 
--- so the fast way gives the position after the move
+-- the fast way gives the position after the move: two writes, and rights, target and clock as computed
 pub after_shift : (p : Setup) (m : Move) (x : Man) (rights : Rights) (target : Option ℕ) (n : ℕ) → IsSound p
     → is_legal p m ≡ true → Shifts p m x → rights ≡ rights_after p m → target ≡ target_after p m
     → n ≡ clock_left p.halfmove x.kind (man_at p.men m.to)

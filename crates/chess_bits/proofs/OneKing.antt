@@ -1,4 +1,6 @@
--- Where a colour has one king, the set of its kings has that square and no other.
+-- Where a colour has exactly one king (`has_one_king`, which counts the kings of the list), the set of its kings isn't
+-- empty (some_king), since without a king on any square none would be counted (none_counted, by induction over the
+-- list); and if a king is on a square, no other square has one (alone, by one_king of chess_base).
 use Rattle.std.proofs.Common.{◌≡◌, ℕ, zero, suc, ◌<◌, inl, inr, Bool, true, false, ◌==◌, cond, count_by, None, List, [], ◌∷◌, length, get_or, refl, sym, ap, ◌∙◌, arith}
 use Rattle.std.proofs.lemmas.Bool.{cases_Bool, eqb-true, eq-eqb, false_from_ne_true, both_ways}
 use Rattle.std.proofs.lemmas.List.Sums.{sum_by-cons}

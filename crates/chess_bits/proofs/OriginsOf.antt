@@ -1,5 +1,7 @@
--- From where pieces can go to a square: officers from squares that their kind would attack from there, pawns by an
--- advance or a capture. The sets have the start of each legal move to the square (`HasOrigins`), perhaps others too.
+-- Sets that have the start of each legal move of a kind to a square (`HasOrigins`), perhaps others too: officers on
+-- squares that their kind would attack from there, since such pieces attack as they are attacked (officer_origins), and
+-- pawns that advance or capture to it (pawn_origins). And a pawn is off rank 1, with the square ahead of it on the
+-- board (off_lowest, on_board).
 use Rattle.std.proofs.Common.{◌≡◌, ℕ, ◌<◌, ◌≤◌, Bool, true, false, not, ◌&&◌, ◌||◌, ◌==◌, None, refl, sym, ap, ◌∙◌, arith}
 use Rattle.std.proofs.{lemmas.Bool.and_parts, lemmas.Bool.and_from, lemmas.Bool.not-true, lemmas.Bool.Decides.nat_tests}
 use Rattle.chess_base.specs.{declared.man.Colour.Colour, declared.man.Colour.TheVariants.White, declared.man.Colour.TheVariants.Black, declared.man.Kind.Kind, declared.man.Move.Move, declared.setup.Setup.Setup, Attacks.could_capture, MoveList.move_of, Moves.is_legal, Moves.pawn_advances, Moves.pawn_captures, shared.Parts.pawn_is_allowed, Squares.file, Squares.rank}
@@ -35,7 +37,8 @@ officer_attacks p kind m no_pawn no_king legal man =
     (officer_is p m.from m.to _ at own no_king ∙ goes) in
     back p.men p.side kind m.to m.from no_pawn ∙ both.0
 
--- so w, the officers of the kind on such squares, has all starts
+-- so if w has the officers of the kind (all of them: u) on squares that the kind attacks from `to`, it has the start of
+-- each legal move of the kind to `to`
 pub officer_origins : (p : Setup) (kind : Kind) (to w u : ℕ) → same_kind Pawn kind ≡ false → same_kind King kind ≡ false
     → ((k : ℕ) → k < 64 → contains w k ≡ (could_capture p.men p.side kind to k && contains u k))
     → ((k : ℕ) → k < 64 → contains u k ≡ is_man p.side kind (man_at p.men k))
@@ -60,7 +63,7 @@ off_lowest men Black a man e = by (is_man White Pawn (man_at men a)) (rw man at 
     by true h = let f = not-true _ h in grind (arith, nat_tests, f)
     by false h = let f = not-true _ h in grind (arith, nat_tests, f)
 
--- and one square ahead of a pawn is on the board
+-- the square one ahead of a pawn is on the board
 pub on_board : (men : Men) (c : Colour) (a : ℕ) → is_man c Pawn (man_at men a) ≡ true → pawn_is_allowed men a ≡ true
     → a < 64 → forward c a < 64
 on_board men White a man e low = let f = not-true _ (rw man at e) in grind (arith, nat_tests, f, low)
@@ -74,7 +77,7 @@ pawn_comes p m pawn legal =
     (ends_below p m legal))
     ∙ (legal_goes p m legal).0
 
--- so the pawns that advance or capture to the square are all starts
+-- so the pawns that advance or capture to the square are the starts of all pawns' legal moves there
 pub pawn_origins : (p : Setup) (kind : Kind) (to w : ℕ) → same_kind Pawn kind ≡ true
     → ((k : ℕ) → k < 64 → contains w k ≡ (is_man p.side Pawn (man_at p.men k)
     && (pawn_advances p (move_of k to None) || pawn_captures p (move_of k to None))))

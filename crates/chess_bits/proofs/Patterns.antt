@@ -1,6 +1,8 @@
--- A move is pseudo-legal exactly if its piece goes from the one square to the other (`goes`), and its promotion fits: a
--- kind that a pawn may become if it comes to its last rank, and otherwise none (`pattern_is`). `goes` tries one
--- promotion only, to a queen, as this makes no difference.
+-- A move is pseudo-legal exactly if its piece goes from the one square to the other (`goes`, which tries a single
+-- promotion) and its promotion fits: a kind that a pawn may become on its last rank, otherwise none (pattern_is, by
+-- cases of the piece). By kind: pawns go by advance or capture (pawn_goes), others as they attack or castle
+-- (officer_goes); `man_goes` has the ends of all their legal moves, and only ends to which they go (man_complete,
+-- man_sound).
 use mathlib.Core.Bool.{and-true, and-false, and_comm}
 use Rattle.std.proofs.Common.{◌≡◌, ℕ, ◌<◌, Bool, true, false, not, ◌&&◌, ◌||◌, ◌==◌, cond, Option, Some, None, refl, sym, ap, ◌∙◌, nat_lt, arith, if◌then◌else◌}
 use Rattle.std.proofs.lemmas.Bool.{and_parts, and_from, lt-ltb, both_ways, false_from_ne_true}
@@ -51,7 +53,8 @@ unfolding pawn_moves pawn_advances pawn_captures is_double_advance
 pawns p a b k = turned (rank b == first_rank (other p.side)) k
     (pawn_advances p (move_of a b None) || pawn_captures p (move_of a b None))
 
--- so for each kind of piece, own or not
+-- for any piece, own or not, a pawn or not: its move with the promotion k is pseudo-legal exactly if that with the
+-- tried promotion is, and k fits
 by_kind : (p : Setup) (a b : ℕ) (k : Option Kind) (own pawn : Bool)
     → (own && cond pawn (pawn_moves p (move_of a b k)) (castles_or_moves p (move_of a b k) (castle_of p (move_of a b k))))
     ≡ ((own && cond pawn (pawn_moves p
@@ -65,7 +68,8 @@ by_kind p a b k false pawn = refl
 by_kind p a b k true true = pawns p a b k
 by_kind p a b k true false = officers p a b k
 
--- and for each content of the start square
+-- for each content o of the start square: the move with the promotion k is pseudo-legal exactly if that with the tried
+-- promotion is, and k fits
 by_man : (p : Setup) (a b : ℕ) (k : Option Kind) (o : Option Man) → man_at p.men a ≡ o
     → moves_as p (move_of a b k) o
     ≡ (moves_as p (move_of a b (tried_promotion p a b)) o && promotion_fits (would_promote p a b) k)
@@ -84,7 +88,7 @@ pattern_by p a b k =
     ∙ and_joined (nat_lt a 64 && nat_lt b 64) (moves_as p (move_of a b (tried_promotion p a b)) (man_at p.men a))
     (promotion_fits (would_promote p a b) k)
 
--- so a move is pseudo-legal exactly if its piece goes so and its promotion fits
+-- a move is pseudo-legal exactly if its piece goes from its start to its end (`goes`), and its promotion fits
 pub pattern_is : (p : Setup) (m : Move)
     → is_pseudo_legal p m ≡ (goes p m.from m.to && promotion_fits (would_promote p m.from m.to) m.promotion)
 pattern_is p m = pattern_by p m.from m.to m.promotion
@@ -121,7 +125,7 @@ unfolding would_promote is_man
 promotes_is p a b x at own pawn = let own' : same_colour p.side x.colour ≡ true = rw own (same_colour-self p.side) in
     rw (at, own', pawn) refl
 
--- a pawn advances or captures
+-- a pawn goes from a to b exactly if it advances or captures there
 pub pawn_goes : (p : Setup) (a b : ℕ) (x : Man) → man_at p.men a ≡ Some x → x.colour ≡ p.side
     → same_kind Pawn x.kind ≡ true → a < 64 → b < 64
     → goes p a b ≡ (pawn_advances p (move_of a b None) || pawn_captures p (move_of a b None))
@@ -145,7 +149,8 @@ moves_officer : (p : Setup) (m : Move) (x : Man) → x.colour ≡ p.side → sam
 moves_officer p m x own no_pawn = let own' : same_colour p.side x.colour ≡ true = rw own (same_colour-self p.side) in
     rw (own', no_pawn) refl
 
--- another piece goes as it attacks, or castles
+-- a piece other than a pawn goes from a to b exactly if it castles so pseudo-legally or, where the move is no castling,
+-- goes as it attacks
 pub officer_goes : (p : Setup) (a b : ℕ) (x : Man) → man_at p.men a ≡ Some x → x.colour ≡ p.side
     → same_kind Pawn x.kind ≡ false → a < 64 → b < 64
     → goes p a b ≡ castles_or_moves p (move_of a b None) (castle_of p (move_of a b None))
@@ -157,7 +162,7 @@ officer_goes p a b x at own no_pawn low high =
 
 -- ---- legal moves
 
--- a legal move goes so, and its promotion fits
+-- of a legal move, the piece goes from its start to its end (`goes`), and its promotion fits
 pub legal_goes : (p : Setup) (m : Move) → is_legal p m ≡ true → (goes p m.from m.to ≡ true)
     × (promotion_fits (would_promote p m.from m.to) m.promotion ≡ true)
 unfolding is_legal
@@ -177,7 +182,7 @@ man_sound p a b x at own no_pawn low high h = by (castle_of p (move_of a b None)
     by None e g = officer_goes p a b x at own no_pawn low high ∙ ap (castles_or_moves p (move_of a b None)) e ∙ g
     by (Some castle) e g = (legal_goes p (move_of a b None) g).0
 
--- and each legal move of it ends on such a square
+-- each legal move of a piece other than a pawn ends on a square that `man_goes` names
 pub man_complete : (p : Setup) (m : Move) (x : Man) → man_at p.men m.from ≡ Some x → x.colour ≡ p.side
     → same_kind Pawn x.kind ≡ false → m.from < 64 → m.to < 64
     → is_legal p m ≡ true → man_goes p m.from m.to ≡ true

@@ -1,5 +1,7 @@
--- From where pawns go to a square, by sets: straight ahead from one square back or, at home, from two back; by a
--- capture from the squares that an enemy pawn on it would attack.
+-- Pawns that go to a square, as sets. Straight ahead from one rank back or, at home, two (advances_are); by a capture
+-- from squares that an enemy pawn on it would attack (captures_are). Off the last rank these moves are pseudo-legal,
+-- and change only two squares if the square isn't the target (pawn_patterns, pawns_plain); the legal ones begin on all
+-- legal starts of pawns (pawn_starts_are). On the last rank there are none without a promotion (none_on_last).
 use mathlib.Core.Bool.{and_comm, not-not}
 use Rattle.std.proofs.Common.{◌≡◌, ℕ, ◌<◌, ◌≤◌, inl, inr, Bool, true, false, not, ◌&&◌, ◌||◌, ◌==◌, None, is_none, refl, sym, ap, ◌∙◌, arith}
 use Rattle.std.proofs.lemmas.Bool.{and_from, and_left, and_parts, and_right, cases_Bool, eqb-true}
@@ -19,8 +21,9 @@ home_ahead : (c : Colour) (k : ℕ) → k < 64 → rank k ≡ pawn_rank c → (8
 home_ahead White k low e = (omega (arith, low, e), omega (arith, low, e))
 home_ahead Black k low e = (omega (arith, low, e), omega (arith, low, e))
 
--- `once` is the square behind `to`, `crossed` the same if it is empty, `twice` the square behind that: a pawn on k
--- advances to `to`, which is empty, exactly if k is in `once`, or in `twice` and on the home rank
+-- `once` is the square one rank back from `to`, `crossed` the same if it is empty, `twice` the square one rank back
+-- from that: a pawn on k advances to `to`, which is empty, exactly if k is in `once`, or in `twice` and on the home
+-- rank
 pub advances_are : (p : Setup) (to k one once crossed twice home all occupied : ℕ) → to < 64 → k < 64 → 8 ≤ k
     → is_man p.side Pawn (man_at p.men k) ≡ true → is_none (man_at p.men to) ≡ true
     → ((j : ℕ) → j < 64 → contains occupied j ≡ not (is_none (man_at p.men j)))
@@ -109,7 +112,8 @@ pawn_patterns p to w high off starts k low on =
     (pawn_advances p (move_of k to None) || pawn_captures p (move_of k to None)) (sym (starts k low) ∙ on) in
     (parts.0, sym (goes_so p k to off high low parts.0) ∙ parts.1)
 
--- they change only their two squares, if `to` is not the target
+-- w are the pawns that advance or capture to `to`, which is off the last rank and not the target: these moves change
+-- only their two squares
 pub pawns_plain : (p : Setup) (to w : ℕ) → to < 64 → (rank to == first_rank (other p.side)) ≡ false
     → is_at p.target to ≡ false
     → ((k : ℕ) → k < 64 → contains w k ≡ (is_man p.side Pawn (man_at p.men k)

@@ -1,6 +1,7 @@
--- The legal moves of free pawns that neither promote nor take en passant, counted together: each pawn has one for each
--- of four ways that is open to it (one square ahead, two, a capture left or right), so the pawns of each way are added
--- up (pawns_counted).
+-- A free pawn that neither promotes nor takes en passant has one legal move for each of four ways that is open to it:
+-- one square ahead, two, a capture left or right (pawn_counted). So such pawns have as many together as the four sets
+-- of pawns to which a way is open have squares (pawns_counted, by induction over the squares); and the sets that
+-- `count_ordinary_pawns` computes are these (ways_are).
 use mathlib.Core.Bool.{not-not, or-false}
 use Rattle.std.proofs.Common.{◌≡◌, ℕ, zero, suc, ◌+◌, ◌-◌, ◌/◌, ◌<◌, ◌≤◌, inl, inr, Bool, true, false, not, ◌&&◌, ◌||◌, ◌==◌, cond, Option, Some, None, is_none, List, [], ◌∷◌, length, length-append, refl, sym, ap, ◌∙◌, arith}
 use Rattle.std.specs.List.{filter, flat_map, range_with_len}
@@ -19,7 +20,7 @@ use Rattle.chess_bits.proofs.{Attackers.pawn_back, Freely.IsOrdinary, Freely.paw
 
 -- ---- sums
 
--- one if the test holds, and else none
+-- 1 if the test holds, otherwise 0
 abbrev once : Bool → ℕ
 once t = cond t 1 0
 
@@ -57,7 +58,7 @@ all_kept : (xs : List ℕ) → filter (λ k. true) xs ≡ xs
 all_kept [] = refl
 all_kept (x ∷ xs) = ap (λ ys. x ∷ ys) (all_kept xs)
 
--- one square alone passes, if the other test holds
+-- how many of the 64 squares are square n, if the test o holds: one, and none if it doesn't
 alone : (o : Bool) (n : ℕ) → n < 64 → length (filter (λ k. o && (k == n)) (range_with_len 0 64)) ≡ once o
 alone false n low = ap length (filter_none (λ k. false) 64 0 (λ k l m. refl))
 alone true n low =
@@ -79,7 +80,7 @@ abbrev Inside : Colour → ℕ → Type 0
 Inside White a = (8 ≤ a) × (a < 48)
 Inside Black a = (16 ≤ a) × (a < 64)
 
--- so it is for a pawn that is not on the last rank but one
+-- a pawn that is not on its last rank but one is `Inside`
 inside : (men : Men) (c : Colour) (a : ℕ) → is_man c Pawn (man_at men a) ≡ true → pawn_is_allowed men a ≡ true → a < 64
     → (rank a ≡ pawn_rank (other c) → ⊥) → Inside c a
 inside men White a man stands low off =
@@ -94,7 +95,7 @@ inside men Black a man stands low off =
     past_last : (r : ℕ) → a / 8 ≡ r → (r ≡ 1 → ⊥) → 8 ≤ a → 16 ≤ a
     past_last r e one from = grind (arith, e, one, from)
 
--- the four squares are on the board, and are four
+-- the four squares n, t, l and r are on the board, and no two of them are the same
 record AreApart (n t l r : ℕ) : Type 0 where
   pub low_n : n < 64
   pub low_t : t < 64
@@ -107,7 +108,8 @@ record AreApart (n t l r : ℕ) : Type 0 where
   pub tr : t ≡ r → ⊥
   pub lr : l ≡ r → ⊥
 
--- they are one and two squares ahead, and left and right of the one ahead
+-- for a pawn's square a that is `Inside`, the squares one and two ahead, and those left and right of the one ahead, are
+-- four squares on the board
 apart : (c : Colour) (a : ℕ) → Inside c a
     → AreApart (forward c a) (forward c (forward c a)) (forward c a - 1) (forward c a + 1)
 apart White a i = let low = i.0 in let high = i.1 in grind arith
@@ -121,11 +123,11 @@ unfolding could_capture
 attacks_so men White a b i = grind (arith, nat_tests, i.0, i.1)
 attacks_so men Black a b i = grind (arith, nat_tests, i.0, i.1)
 
--- it attacks a square from where an enemy pawn there attacks
+-- a pawn on k attacks t exactly if an enemy pawn on t would attack k
 pub aims_back : (c : Colour) (k t : ℕ) → in_shape (shape.Pawn (other c)) t k ≡ in_shape (shape.Pawn c) k t
 aims_back c k t = pawn_back [] c k t ∙ sym (pawn_from [] c k t)
 
--- a pawn that does not attack the target captures enemies alone
+-- where a pawn on a does not attack the target, it captures on b exactly if it attacks b and an enemy is there (e)
 no_target : (men : Men) (c : Colour) (o : Option ℕ) (a b : ℕ) (e : Bool) → aims_at o c a ≡ false
     → (could_capture men c Pawn a b && (e || is_at o b)) ≡ (could_capture men c Pawn a b && e)
 no_target men c None a b e off = ap (λ t. could_capture men c Pawn a b && t) (or-false e)
@@ -145,7 +147,8 @@ on_each f g true false e l r h k = rw (← h refl) (grind arith)
 on_each f g false true e l r h k = rw (← k refl) (grind arith)
 on_each f g false false e l r h k = grind arith
 
--- so a pawn that does not attack the target captures left if an enemy is there, and right
+-- a pawn that does not attack the target captures just on the square ahead to the left, if an enemy is there, and on
+-- the one ahead to the right, if an enemy is there
 captures_so : (p : Setup) (a b : ℕ) → is_man p.side Pawn (man_at p.men a) ≡ true → aims_at p.target p.side a ≡ false
     → Inside p.side a
     → pawn_captures p (move_of a b None)
@@ -165,7 +168,7 @@ captures_so p a b pawn off i =
 and_joined : (s r t x : Bool) → ((s && r) && (t && x)) ≡ (((s && r) && t) && x)
 and_joined s r t x = grind arith
 
--- it advances one square if that is empty, and from home two if both are
+-- a pawn advances just one square if that is empty, and from home also two if both are
 advances_so : (p : Setup) (a b : ℕ) → is_man p.side Pawn (man_at p.men a) ≡ true
     → pawn_advances p (move_of a b None)
     ≡ ((is_none (man_at p.men (forward p.side a)) && (b == forward p.side a))
@@ -179,14 +182,15 @@ advances_so p a b pawn =
 
 -- ---- the moves of one
 
--- it goes to one of four squares, each of which it may reach in one way
+-- whether b is one of four squares to which a way is open (q, r, s, t) is counted as the sum over the four, since they
+-- are apart
 four_ways : (q r s t : Bool) (b n m l k : ℕ) → AreApart n m l k
     → once (((q && (b == n)) || (r && (b == m))) || ((s && (b == l)) || (t && (b == k))))
     ≡ once (q && (b == n)) + once (r && (b == m)) + once (s && (b == l)) + once (t && (b == k))
 four_ways q r s t b n m l k are =
     grind (arith, nat_tests, are.nt, are.nl, are.nr, are.tl, are.tr, are.lr)
 
--- so over all squares, each open way counts one
+-- summed over all squares b, each of the four ways that is open counts one
 four_alone : (q r s t : Bool) (n m l k : ℕ) → AreApart n m l k
     → length (filter (λ b. q && (b == n)) (range_with_len 0 64)) + length
     (filter (λ b. r && (b == m)) (range_with_len 0 64)) + length (filter (λ b. s && (b == l)) (range_with_len 0 64))
@@ -194,7 +198,7 @@ four_alone : (q r s t : Bool) (n m l k : ℕ) → AreApart n m l k
 four_alone q r s t n m l k are =
     summed (alone q n are.low_n) (alone r m are.low_t) (alone s l are.low_l) (alone t k are.low_r)
 
--- how many legal moves there are from one square to another
+-- a free and ordinary pawn has one legal move to a square to which it advances or where it captures, otherwise none
 between_counted : (p : Setup) (a b king : ℕ) → IsSound p → IsFree p a → is_man p.side Pawn (man_at p.men a) ≡ true
     → IsOrdinary p a → a < 64 → b < 64 → king < 64
     → ((k : ℕ) → k < 64 → is_man p.side King (man_at p.men k) ≡ (k == king))
@@ -221,7 +225,7 @@ takes_left p a = not (file a == 0) && is_of (other p.side) (man_at p.men (forwar
 abbrev pub takes_right : Setup → ℕ → Bool
 takes_right p a = not (file a == 7) && is_of (other p.side) (man_at p.men (forward p.side a + 1))
 
--- a pawn that does not go specially is inside
+-- a pawn that may neither promote by its next move nor take en passant (`goes_specially`) is `Inside`
 pub stands_inside : (p : Setup) (a : ℕ) → IsSound p → is_man p.side Pawn (man_at p.men a) ≡ true → a < 64
     → goes_specially p a ≡ false → Inside p.side a
 unfolding no_pawn_on_end_ranks
@@ -230,7 +234,8 @@ stands_inside p a sound pawn low ordinary =
     (eqb-false (rank a) (pawn_rank (other p.side))
     (or_parts (aims_at p.target p.side a) (rank a == pawn_rank (other p.side)) ordinary).1)
 
--- so a free pawn that does not go specially has as many legal moves as ways are open to it
+-- a free pawn that may neither promote by its next move nor take en passant has as many legal moves as ways are open to
+-- it
 pub pawn_counted : (p : Setup) (a king : ℕ) → IsSound p → IsFree p a → is_man p.side Pawn (man_at p.men a) ≡ true
     → a < 64 → king < 64 → ((k : ℕ) → k < 64 → is_man p.side King (man_at p.men k) ≡ (k == king))
     → goes_specially p a ≡ false
@@ -269,7 +274,8 @@ pub record AreWays (p : Setup) (w q r s t : ℕ) : Type 0 where
   pub none : (k : ℕ) → k < 64 → contains w k ≡ false
       → (contains q k ≡ false) × (contains r k ≡ false) × (contains s k ≡ false) × (contains t k ≡ false)
 
--- so the legal moves of such pawns together are as many as these four sets have squares
+-- the legal moves of free pawns w that may neither promote nor take en passant are together as many as the four sets of
+-- those to which a way is open have squares
 pub pawns_counted : (p : Setup) (king w q r s t : ℕ) → IsSound p → king < 64
     → ((k : ℕ) → k < 64 → is_man p.side King (man_at p.men k) ≡ (k == king))
     → AreFree p Pawn w → ((k : ℕ) → k < 64 → contains w k ≡ true → goes_specially p k ≡ false) → AreWays p w q r s t
@@ -309,7 +315,7 @@ pub record AreSets (p : Setup) (w full blockers farther homes enemies lefts righ
   pub left : (k : ℕ) → contains s k ≡ (contains w k && contains lefts k)
   pub right : (k : ℕ) → contains t k ≡ (contains w k && contains rights k)
 
--- these are the pawns to which each way is open
+-- the sets q, r, s and t that `count_ordinary_pawns` computes are those of the pawns to which each way is open
 pub ways_are : (p : Setup) (w full blockers farther homes enemies lefts rights q again r s t : ℕ) → IsSound p
     → AreFree p Pawn w → ((k : ℕ) → k < 64 → contains w k ≡ true → goes_specially p k ≡ false)
     → AreSets p w full blockers farther homes enemies lefts rights q again r s t → AreWays p w q r s t

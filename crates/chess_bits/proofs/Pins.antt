@@ -1,5 +1,8 @@
--- Where a piece may go that shields its king, or whose king is in check: between the king and the enemy that attacks
--- it, or would with the piece off the board, or onto this enemy, or to the en passant target (`answered`, `check_met`).
+-- If an enemy attacks the king, or would with the mover off the board, each legal move of a piece other than the king
+-- ends between the two, on this enemy, or on the en passant target (check_met, answered): otherwise the enemy would
+-- attack the king afterwards. What hides a king from a queen, rook or bishop that aims at it: no piece, one
+-- (`IsShield`), or more (none_hides, one_hides, many_hide). Squares with a square between them are on one line
+-- (line_between).
 use Rattle.chess_base.proofs.{shared.Changes.at_target, shared.Men.is_none-None, shared.Squares.each_square-all, shared.Squares.each_square-at, shared.Squares.some_square-at, shared.Geometry.between_back, shared.MenAfter.eqb_comm}
 use Rattle.chess_bits.proofs.{TargetsOf.no_king_castles, Attackers.de_morgan, BetweenSquares.are_on_line, BoardSets.theirs_of, Freely.from_not, KingAfter.king_stays, KingAfter.check_after, KingAfter.legal_is, Lifted.lifted_at}
 use Rattle.std.specs.Int.{abs_diff}
@@ -182,7 +185,8 @@ must_end p m king b sound legal there one no_king low theirs hits no_target =
         (and_from _ _ (ap (is_of (other p.side)) stood ∙ theirs)
         (ap (λ o. could_capture_as (men_after p m) o b king) stood ∙ hit))
 
--- so a legal move, not the king's, ends between, on the enemy's square, or on the en passant target
+-- if an enemy on b attacks the king once the mover is off the board, a legal move, not the king's, ends between the
+-- two, on b, or on the en passant target
 pub answered : (p : Setup) (m : Move) (king b : ℕ) → IsSound p → is_legal p m ≡ true → king < 64
     → ((k : ℕ) → k < 64 → is_man p.side King (man_at p.men k) ≡ (k == king))
     → is_man p.side King (man_at p.men m.from) ≡ false → b < 64 → is_of (other p.side) (man_at p.men b) ≡ true
@@ -221,12 +225,12 @@ unfolding is_man is_of
 aims_as c None men a b h clear = cc
 aims_as c (Some x) men a b h clear = aims_by (same_colour c x.colour) x.colour x.kind men a b h clear
 
--- they would attack it, if the way were clear
+-- an enemy on b that aims at k could capture there, if the way were clear
 pub aims_hit : (p : Setup) (men : Men) (b k : ℕ) → aims_from p b k ≡ true → is_clear men b k ≡ true
     → (is_of (other p.side) (man_at p.men b) ≡ true) × (could_capture_as men (man_at p.men b) b k ≡ true)
 aims_hit p men b k h clear = aims_as (other p.side) (man_at p.men b) men b k h clear
 
--- and are on a line with it
+-- a piece on b that aims at k is on a rank, file or diagonal with it
 pub aims_on_line : (p : Setup) (b k : ℕ) → aims_from p b k ≡ true → are_on_line b k ≡ true
 aims_on_line p b k h =
     on (is_man (other p.side) Rook (man_at p.men b) || is_man (other p.side) Queen (man_at p.men b))

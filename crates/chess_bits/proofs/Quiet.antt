@@ -1,5 +1,6 @@
--- A move that changes only its two squares leaves the king as safe as it was with the mover taken off (stays_safe): the
--- mover arrives where it can only block lines, and no enemy piece comes.
+-- A move that is neither castling nor en passant (`IsPlain`) leaves a square, such as the king's, unattacked if it was
+-- so with the mover taken off (stays_safe): the mover arrives where it can only block lines, and no enemy piece comes.
+-- A move that is not the king's and not en passant fills its end and changes its two squares (fills_end, changes_both).
 use Rattle.chess_bits.proofs.{TargetsOf.no_king_castles, KingAfter.mover_some, KingAfter.mover_own, Lifted.lifted_at}
 use mathlib.Core.Bool.{or-false}
 use Rattle.std.proofs.Common.{◌≡◌, ℕ, ◌<◌, inl, inr, Bool, true, false, not, ◌&&◌, ◌||◌, ◌==◌, cond, length, refl, sym, ap, ◌∙◌, Option, Some, None, is_none, arith}
@@ -28,7 +29,8 @@ queen_told true false true t u h g e = g refl e
 queen_told true false false t u h g e = e
 queen_told false s d t u h g e = e
 
--- for each kind of piece; only queen, rook and bishop use lines
+-- for each kind k of piece on a: what it could capture on b later it could capture before, if a rank or file from a to
+-- b that a rook or queen uses was clear before where it is later, and a diagonal that a bishop or queen uses
 pub capture_before : (men later : Men) (c : Colour) (k : Kind) (a b : ℕ)
     → ((same_kind Rook k || same_kind Queen k) ≡ true → (not (a == b) && share_rank_or_file a b) ≡ true
     → is_clear later a b ≡ true → is_clear men a b ≡ true)
@@ -47,7 +49,8 @@ capture_before men later c Rook a b l d e =
 capture_before men later c Bishop a b l d e =
     last_told (not (a == b)) (share_diagonal a b) (is_clear later a b) (is_clear men a b) (d refl) e
 
--- so by the content o of square a, if the way to b was clear before where it is later
+-- for each content o of square a: what it could capture on b later it could capture before, if the way from a to b was
+-- clear before where it is later
 pub could_capture_as_clear : (men later : Men) (o : Option Man) (a b : ℕ)
     → (is_clear later a b ≡ true → is_clear men a b ≡ true)
     → could_capture_as later o a b ≡ true → could_capture_as men o a b ≡ true
@@ -62,7 +65,7 @@ pub record IsPlain (p : Setup) (m : Move) : Type 0 where
   pub mover : is_none (arriving_man (man_at p.men m.from) m.promotion) ≡ false
   pub own : is_of (other p.side) (arriving_man (man_at p.men m.from) m.promotion) ≡ false
 
--- what such a move leaves on a square
+-- what a plain move leaves on square k: on the mover's end what arrives, on its start nothing, elsewhere what was there
 pub plain_after : (p : Setup) (m : Move) (k : ℕ) → IsPlain p m → k < 64
     → man_at (men_after p m) k ≡ cond (mover_end p m == k) (arriving_man (man_at p.men m.from) m.promotion)
     (cond (m.from == k) None (man_at p.men k))
@@ -153,14 +156,14 @@ pub lands_same : (o : Option Man) → arriving_man o None ≡ o
 lands_same None = refl
 lands_same (Some x) = refl
 
--- such a move fills its end square, and changes that and its start
+-- a move that is not the king's and not en passant fills its end square alone
 pub fills_end : (p : Setup) (m : Move) (k : ℕ) → is_man p.side King (man_at p.men m.from) ≡ false
     → (is_man p.side Pawn (man_at p.men m.from) && is_at p.target m.to) ≡ false → (k == m.to) ≡ is_filled p m k
 unfolding castling_rook_to mover_end
 fills_end p m k no_king no_passing =
     rw (no_king_castles p m no_king) (eqb_comm k m.to ∙ sym (or-false (m.to == k)))
 
--- and it changes its two squares alone
+-- a move that is not the king's and not en passant changes its two squares alone
 pub changes_both : (p : Setup) (m : Move) (k : ℕ) → is_man p.side King (man_at p.men m.from) ≡ false
     → (is_man p.side Pawn (man_at p.men m.from) && is_at p.target m.to) ≡ false
     → ((k == m.to) || (k == m.from)) ≡ is_changed p m k
@@ -168,7 +171,7 @@ unfolding second_square_emptied castling_rook_to mover_end
 changes_both p m k no_king no_passing =
     rw (not_passing p m no_passing, no_king_castles p m no_king, eqb_comm k m.to, eqb_comm k m.from) (grind arith)
 
--- it is plain, as any move that is neither castling nor en passant
+-- a pseudo-legal move that is neither castling nor en passant is plain
 pub plain_by : (p : Setup) (m : Move) → is_pseudo_legal p m ≡ true → castle_of p m ≡ None → is_en_passant p m ≡ false
     → IsPlain p m
 unfolding second_square_emptied castling_rook_to

@@ -1,5 +1,6 @@
--- What a piece could capture from its square, as the tables give it: king, knight and pawn by their shapes, queen, rook
--- and bishop along lines with no occupied square between.
+-- The squares that the tables give for a piece are those that it could capture on (`could_capture`), one lemma for each
+-- kind: king, knight and pawn by their shapes; queen, rook and bishop along lines with no occupied square between. By
+-- the definition of each kind, where a line seen from the other end is the same line (line_back).
 use Rattle.std.proofs.Common.{◌≡◌, ℕ, Bool, not, ◌&&◌, ◌||◌, ◌==◌, refl, ap, ◌∙◌, is_none, arith}
 use Rattle.chess_base.specs.{declared.man.Colour.Colour, Men.Men, Men.man_at, Attacks.is_clear, Attacks.could_capture}
 use Rattle.chess_base.specs.declared.man.Kind.TheVariants.{King, Queen, Rook, Bishop, Knight, Pawn}
@@ -44,7 +45,8 @@ queen_from w men c a b h =
     rw (eqb_comm b a, line_back a b, diagonal_back b a, open_from w men a b h)
     (queen_parts (not (a == b)) (share_rank_or_file a b) (share_diagonal a b) (is_clear men a b))
 
--- the same for a square of a set: m says that it is in the set
+-- b is on an open rank or file of a and in a set (m), or on an open diagonal of a and in the set, exactly if a queen on
+-- a could capture on b and b is in the set
 pub queen_met : (w : ℕ) (men : Men) (c : Colour) (a b : ℕ) (m : Bool) → IsOccupied w men
     → (((not (b == a) && share_rank_or_file b a && is_open w a b) && m)
     || ((not (b == a) && share_diagonal b a && is_open w a b) && m)) ≡ (could_capture men c Queen a b && m)

@@ -1,4 +1,7 @@
--- The sets of a board without pieces are empty, and placing the pieces one after another gives the sets of the board.
+-- A board without pieces has empty sets and the hash 0 (no_sets, no_kinds), and the occupied squares of any board are
+-- those of both colours (occupied_by). For the loop that places the pieces one after another: at first the board is
+-- empty (none_placed); after each piece the sets are those of the board without the pieces that are left (one_placed);
+-- when none is left, all are placed (all_placed).
 use Rattle.chess_base.proofs.shared.Men.{is_man-none, is_of-none}
 use Rattle.std.proofs.Common.{◌≡◌, ◌≢◌, ◌⊎◌, ℕ, ◌<◌, inl, inr, Bool, true, false, not, ◌||◌, refl, sym, ◌∙◌, ap, arith, subst, Option, Some, None, is_none, [], ◌∷◌, length, length-set, set, get_or-set_same, get_or-set_other, slice_index, cond}
 use Rattle.chess_base.specs.{declared.man.Colour.Colour, declared.man.Colour.TheVariants.White, declared.man.Colour.TheVariants.Black, declared.man.Kind.Kind, declared.man.Man.Man, Men.Men, Men.man_at, Men.is_of, shared.Parts.kind_number}

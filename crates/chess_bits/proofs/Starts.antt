@@ -1,4 +1,6 @@
--- When the first member (s) of a set (w) is taken out, the others (v) are left: this is what `take_first` does.
+-- What `take_first` does to a set w with the members s and then those of v: w has the squares of v, and s
+-- (taken_first); s is not in v (first_gone), and is a square of w (first_in). A set without members has no square
+-- (none_left). Members are a filter of the numbers 0 to 63, so all is shown by induction over ranges.
 use Rattle.std.proofs.Common.{◌≡◌, ℕ, zero, suc, ◌<◌, ◌≤◌, ◌+◌, inl, inr, Bool, true, false, ◌||◌, ◌==◌, List, [], ◌∷◌, refl, sym, ap, ◌∙◌, arith}
 use Rattle.std.specs.List.{filter, range_with_len}
 use Rattle.std.proofs.lemmas.Bool.{cases_Bool, cases_lt, eq-eqb, ne_eqb}
@@ -60,12 +62,12 @@ is_in-members : (w k : ℕ) → k < 64 → is_in k (members w) ≡ contains w k
 unfolding members squares
 is_in-members w k low = within (λ x. contains w x) k 64 0 (omega arith) (omega (arith, low))
 
--- w has the squares of v, and s
+-- if the members of w are s and then those of v, w has just the squares of v, and s
 pub taken_first : (w v s k : ℕ) → k < 64 → members w ≡ s ∷ members v → contains w k ≡ ((s == k) || contains v k)
 taken_first w v s k low e =
     sym (is_in-members w k low) ∙ ap (is_in k) e ∙ ap (λ t. (s == k) || t) (is_in-members v k low)
 
--- and s is not in v
+-- if the members of w are s and then those of v, s is not in v
 pub first_gone : (w v s : ℕ) → s < 64 → members w ≡ s ∷ members v → contains v s ≡ false
 unfolding members squares
 first_gone w v s low e = sym (is_in-members v s low) ∙ head_once (λ x. contains w x) 64 0 s (members v) e

@@ -1,5 +1,7 @@
--- Where each kind of piece goes, as its set of targets says: the set has the end of each legal move of the piece, and
--- only squares to which it goes (`goes`).
+-- The set of targets of a piece has the end of each of its legal moves, and only squares to which it goes (`goes`): for
+-- pawns pawn_complete and pawn_sound, for others man_set_complete and man_set_sound. Before that, what each kind's
+-- targets are: an officer attacks them and no own piece is there (officer_is), a king also castles to either side
+-- (to_either_side), a pawn captures (captures_is) or advances one square or two (blocked, one_only, two_too).
 use Rattle.chess_base.proofs.{shared.Changes.no_castling, shared.Squares.some_square-at, shared.Squares.some_square-none, shared.Castling.no_castle, shared.Men.same_colour-self, shared.Men.same_colour-true, shared.Men.same_kind-true}
 use mathlib.Core.Bool.{and-false, and-true, or-false}
 use Rattle.std.proofs.Common.{◌≡◌, ℕ, ◌+◌, ◌-◌, ◌<◌, ◌≤◌, inl, inr, nat_le, Bool, true, false, not, ◌&&◌, ◌||◌, ◌==◌, Option, Some, None, is_none, refl, sym, ap, subst, ◌∙◌, arith}
@@ -42,7 +44,7 @@ pub other_man : (c : Colour) (k : Kind) (o : Option Man) (x : Man) → o ≡ Som
 unfolding is_man
 other_man c k o x at off = rw (at, off) (and_right (same_colour c x.colour) false refl)
 
--- so an officer goes there, and nowhere else
+-- an officer goes to the squares that it attacks and where no own piece is, and nowhere else (`man_goes`)
 pub officer_is : (p : Setup) (a b : ℕ) (x : Man) → man_at p.men a ≡ Some x → is_of p.side (man_at p.men a) ≡ true
     → same_kind King x.kind ≡ false
     → (could_capture p.men p.side x.kind a b && not (is_of p.side (man_at p.men b))) ≡ man_goes p a b
@@ -78,7 +80,7 @@ told p m (Some x) true q h = grind arith
 told p m (Some x) false true h = grind arith
 told p m (Some x) false false h = let none = h refl refl in absurd cc
 
--- castling to one side or the other
+-- a move from a to b is legal castling exactly if it is so to one side or the other
 pub to_either_side : (p : Setup) (a b : ℕ) → (castles_onto p QueenSide a b || castles_onto p KingSide a b)
     ≡ legal_or p (move_of a b None) (castle_of p (move_of a b None)) false
 to_either_side p a b =
@@ -113,7 +115,7 @@ advanced true t r i en et h g = rw (h refl) (grind arith)
 advanced false true r i en et h g = rw (g refl) (grind arith)
 advanced false false r i en et h g = grind arith
 
--- by what is one and two squares ahead
+-- whether a pawn advances to b, by the squares one (n) and two (t) ahead of it
 pub advances_is : (p : Setup) (a b n t : ℕ) → is_man p.side Pawn (man_at p.men a) ≡ true → n ≡ forward p.side a
     → t ≡ forward p.side n
     → pawn_advances p (move_of a b None)
@@ -169,7 +171,7 @@ unfolding is_of
 some_man c None h = cc
 some_man c (Some x) h = (x, refl)
 
--- the same for another piece, whose set w has the squares of `man_goes`
+-- w are the squares to which the piece on a, an own one and no pawn, goes by `man_goes`: it goes to each of them
 pub man_set_sound : (p : Setup) (a w : ℕ) → is_of p.side (man_at p.men a) ≡ true
     → is_man p.side Pawn (man_at p.men a) ≡ false → a < 64
     → ((k : ℕ) → k < 64 → contains w k ≡ man_goes p a k) → (k : ℕ) → k < 64 → contains w k ≡ true → goes p a k ≡ true

@@ -131,7 +131,9 @@ impl Kinds {
 
     /// The squares from which this colour's pieces, which are in these sets, attack `square`; `occupied` are the
     /// occupied squares of the board. It looks from `square` outwards: a knight attacks `square` if it is a knight's
-    /// move away, and a pawn does if a pawn of the other colour on `square` would attack it.
+    /// move away, and a pawn does if a pawn of the other colour on `square` would attack it. The contract says it of
+    /// each square where the sets are right (`AreKindsAt`), since `attacks_outside` asks with the sets of the board
+    /// before a move.
     #[inline(always)]
     pub fn attackers(
         &self,

@@ -132,7 +132,8 @@ impl Bits<'_> {
     }
 
     // The squares from which pieces of this kind (queen, rook, bishop or knight) of the side on move may legally go to
-    // `to`. It looks from `to` outwards: a knight can go to `to` only from squares that a knight on `to` would attack.
+    // `to`. There are none if a piece of that side is on `to`. It looks from `to` outwards: a knight can go to `to`
+    // only from squares that a knight on `to` would attack.
     fn officer_starts(&self, kind: Kind, to: Square) -> SquareSet
         requires { (same_kind King kind || same_kind Pawn kind) ≡ false }
         ensures { HasLegalStarts self.now kind to result }

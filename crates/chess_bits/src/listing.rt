@@ -32,7 +32,8 @@ fn add_moves_with(from: Square, to: Square, promotions: &[Option<Kind>], list: &
     }
 }
 
-// Appends to `list` a move without a promotion from `from` to each square of the set `ends`, from a1 to h8.
+// Appends to `list`, which has room for them, a move without a promotion from `from` to each square of the set `ends`,
+// from a1 to h8. The callers know that these moves are legal.
 fn add_moves_onto(from: Square, ends: SquareSet, list: &mut MoveList)
     requires { array_vec_len list.old + length (members ends) ≤ 896 }
     ensures { list.new.items ≡ list.old.items ++ map (λ b. move_of from b None) (members ends) }
@@ -48,8 +49,9 @@ fn add_moves_onto(from: Square, ends: SquareSet, list: &mut MoveList)
 }
 
 impl Bits<'_> {
-    // Appends to `list` the legal moves from `from` to `to`, with a promotion or without. The caller knows that some
-    // move between the two is pseudo-legal (`goes`).
+    // Appends to `list`, which has room for them, the legal moves from `from` to `to`: four with promotions or none if
+    // a pawn promotes there, otherwise one or none. The caller knows that some move between the two is pseudo-legal
+    // (`goes`).
     fn add_moves_between(&self, from: Square, to: Square, list: &mut MoveList)
         requires goes { goes self.now from to ≡ true }
         requires room { array_vec_len list.old + length (moves_between self.now from to) ≤ 896 }
@@ -128,8 +130,9 @@ impl Bits<'_> {
         }
     }
 
-    // Puts all legal moves into `list`, which is empty: rising by start square, end square and promotion. It fills the
-    // caller's list, since a list of its own (3,592 bytes) would be copied on its way out.
+    // Puts all legal moves into `list`, which is empty: rising by start square and then end square; promotions in the
+    // order queen, rook, bishop, knight. It fills the caller's list, since a list of its own (3,592 bytes) would be
+    // copied on its way out.
     #[inline(always)]
     pub(crate) fn add_moves(&self, list: &mut MoveList)
         requires { list.old.items ≡ [] }

@@ -197,9 +197,9 @@ fn target_left(setup: &Setup, m: &Move, man: Man) -> Option<Square>
     }
 }
 
-// The halfmove clock after a move of `man` to a square with the content `taken`: 0 for a pawn or a capture, otherwise
-// one more than before, at most `COUNTER_LIMIT`. `shift` knows both contents; `halfmove_after`, which gives the same
-// clock, would look at both squares again.
+// The halfmove clock after a move of `man` to a square with the content `taken`: 0 after a pawn's move or a capture,
+// otherwise one more than before, at most `COUNTER_LIMIT`. `shift` knows both contents; `halfmove_after`, which gives
+// the same clock, would look at both squares again.
 #[inline(always)]
 fn halfmove_left(setup: &Setup, man: Man, taken: Option<Man>) -> u32
     ensures { result ≡ clock_left setup.now.halfmove man.kind taken }

@@ -38,7 +38,8 @@ pub(crate) fn filter<F: Fn(Square) -> bool>(set: SquareSet, test: F) -> SquareSe
 }
 
 /// Whether some square of the set passes the test. No square after the first one that passes is tested. In the contract
-/// `q` is a definition with which all answers of the test agree: the result is whether it holds of some square.
+/// `F.pre` says that the test may be called for square k, `F.post` what it may answer; and for each function `q` with
+/// which all these answers agree, the result is whether `q` is true of some square of the set.
 #[inline(always)]
 pub(crate) fn any<F: Fn(Square) -> bool>(set: SquareSet, test: F) -> bool
     requires { (k : ℕ) → k < 64 → contains set k ≡ true → F.pre test k }

@@ -1,5 +1,5 @@
--- The number of squares in a set is the number of 1s in its word (members_counted): by induction from the highest bit
--- down to bit 0.
+-- The number of 1s in a word of 64 bits is the number of squares in its set (members_counted). Shown for the bits from
+-- a on (counted_from), by induction over how many bits are left: bit a is 1 exactly if square a is a member.
 use Rattle.std.proofs.Common.{◌≡◌, ℕ, zero, suc, ◌+◌, ◌*◌, ◌/◌, ◌%◌, ◌^◌, ◌<◌, inl, inr, Bool, cond, List, ◌∷◌, length, refl, sym, ap, ◌∙◌, arith}
 use Rattle.std.proofs.{lemmas.Bool.cases_Bool, Math.Nat.div-div-eq-div-mul, Math.Nat.pow-suc}
 use Rattle.std.specs.{Int.bit_at, Int.RustNames.count_ones, List.range_with_len, List.filter}

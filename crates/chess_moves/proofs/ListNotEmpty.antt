@@ -1,5 +1,6 @@
--- If a move is legal, the list of legal moves isn't empty (some_legal): its promotion is one of the list's, or none, so
--- the move is in the list.
+-- If some move is legal, the list of legal moves isn't empty (some_legal). The promotion of a legal move is one of
+-- those in `promotions` (fits_by_kind: by the cases of `MoveKind`), so the move is in the list of all moves, and the
+-- filter that leaves the legal ones keeps it.
 use Rattle.std.proofs.Common.{◌≡◌, ℕ, ◌<◌, inl, inr, Bool, true, false, Option, Some, None, List, [], ◌∷◌, length, map, refl, ◌∙◌, arith, ◌==◌, nat_lt}
 use Rattle.std.proofs.{lemmas.Bool.cases_Bool, lemmas.Bool.both_ways, lemmas.Bool.lt-ltb, lemmas.List.Folds.list_any_at}
 use Rattle.std.specs.List.{filter, flat_map, list_any}

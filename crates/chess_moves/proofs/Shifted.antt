@@ -1,5 +1,7 @@
--- Words shifted down or up by d bits have the squares with numbers less or more by d (has_lowered, has_raised); and the
--- words of file a and rank 1, shifted, are the other files and ranks (on_file, on_rank).
+-- A word shifted down or up by d has the squares whose numbers are d less or more, as far as they are from 0 to 63
+-- (has_lowered, has_raised), shown bit by bit. The word of file a, shifted up by n, is file n (on_file), and that of
+-- rank 1, shifted up by 8 n, is rank n (on_rank): the words of file a and rank 1 are checked for each of the 64
+-- squares.
 use Rattle.std.proofs.Common.{◌≡◌, ℕ, ◌<◌, ◌≤◌, ◌+◌, ◌-◌, ◌*◌, ◌/◌, ◌%◌, ◌^◌, inl, inr, ◌&&◌, ◌==◌, refl, sym, ap, ◌∙◌, arith, nat_le, pow_pos, shr-shr, div-add-mod'}
 use Rattle.std.proofs.lemmas.Bool.{cases_lt, cases_Bool, le-leb, lt-leb, eqb-true, eq-eqb, ne_eqb, both_ways, agree_below_at}
 use Rattle.std.proofs.lemmas.Nat.Bits.{bit_at-zero, bit_at_cat_low, bit_at_cat_high}

@@ -1,4 +1,5 @@
--- Lemmas for crates above: all are about definitions, none about functions. They can cite no other module of proofs/.
+-- The lemmas of this crate that crates above may cite; the other modules of proofs/ are private to the crate. All are
+-- about definitions, none about functions.
 pub mod AnyMove
 pub mod LegalMoves
 pub mod Made

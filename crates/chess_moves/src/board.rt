@@ -86,8 +86,8 @@ pub trait Board {
     fn in_check(&self) -> bool
         ensures { result ≡ is_in_check (position self.now).men (position self.now).side };
 
-    /// The position's hash, a Zobrist hash of pieces, side on move and castling rights, without the en passant target:
-    /// two positions whose hashes differ are not the same.
+    /// The position's hash, as the board computes it (`word_of`) from pieces, side on move and castling rights, without
+    /// the en passant target; on both boards it is a Zobrist hash. Two positions whose hashes differ are not the same.
     fn word(&self) -> u64
         ensures { result ≡ word_of (position self.now).men (position self.now).side (position self.now).rights };
 

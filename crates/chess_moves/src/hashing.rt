@@ -65,7 +65,7 @@ fn kind_index(kind: Kind) -> u16
     }
 }
 
-/// The Zobrist key of this piece on this square.
+/// The Zobrist key of this piece on this square, taken from `keys`: computed (`ComputedKeys`), or looked up in a table.
 // Inlined, since chess_bits calls it for each square that a move changes. What that gains was not measured apart.
 #[inline(always)]
 pub fn man_key<K: Keys>(keys: &K, man: Man, square: Square) -> u64
@@ -129,7 +129,8 @@ fn rights_hash<K: Keys>(keys: &K, rights: &Rights) -> u64
     white_king_side ^ white_queen_side ^ black_king_side ^ black_queen_side
 }
 
-/// The Zobrist hash of a position, from `of_men`, the exclusive or of its pieces' keys, which the caller knows already.
+/// The Zobrist hash of the position `setup`, from `of_men`, the exclusive or of its pieces' keys, which the caller
+/// knows already. The keys of side and rights are taken from `keys`.
 pub fn hash_with<K: Keys>(keys: &K, of_men: u64, setup: &Setup) -> u64
     requires { of_men ≡ xor_of (men_keys setup.now.men) }
     ensures { result ≡ position_hash setup.now.men setup.now.side setup.now.rights }

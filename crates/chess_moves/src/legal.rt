@@ -9,8 +9,9 @@ use crate::board::MoveList;
 use crate::listing;
 use chess_base::Position;
 
-/// All legal moves of a position, each once, rising by start square, end square and promotion (none, queen, rook,
-/// bishop, knight). A program that goes through many positions keeps a [`crate::Board`] instead.
+/// All legal moves of a position, each once, rising by start square and then end square (a1 first, h8 last); promotions
+/// in the order queen, rook, bishop, knight. A program that goes through many positions keeps a [`crate::Board`]
+/// instead.
 ///
 /// ```
 /// for m in legal_moves(&position).as_slice() {

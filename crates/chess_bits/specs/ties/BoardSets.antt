@@ -6,8 +6,8 @@ use Rattle.chess_bits.specs.declared.sets.Sets.{Sets}
 use Rattle.chess_bits.specs.ties.KindSets.{IsAll, IsKinds}
 use Rattle.chess_moves.specs.PositionHash.{men_keys, xor_of}
 
--- the sets s are those of these pieces: of each colour by kind and together; and `men_hash` is the exclusive or of
--- their keys
+-- the sets s are those of the pieces `men`: for each colour one set for each kind, and one of all; and `men_hash` is
+-- the exclusive or of the Zobrist keys of all pieces on their squares
 pub record IsSets (s : Sets) (men : Men) : Type 0 where
   pub of_white : IsKinds s.white.sets White men
   pub of_black : IsKinds s.black.sets Black men

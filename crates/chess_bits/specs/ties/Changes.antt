@@ -1,4 +1,5 @@
--- The squares that a move changes and fills, and moves that change their two squares alone.
+-- The squares that a move changes and fills, moves that change their two squares alone, and the halfmove clock after a
+-- move.
 use Rattle.std.specs.Prelude.{◌≡◌, ℕ, ◌+◌, ◌==◌, not, ◌&&◌, ◌||◌, Bool, true, false, None, is_none, min, Option, Some, if◌then◌else◌}
 use Rattle.std.specs.Option.{is_some}
 use Rattle.chess_base.specs.declared.man.Kind.{Kind}
@@ -13,7 +14,8 @@ use Rattle.chess_base.specs.Men.{man_at, is_man, same_kind}
 use Rattle.chess_base.specs.Moves.{is_pseudo_legal, is_en_passant, second_square_emptied}
 use Rattle.chess_base.specs.Squares.{is_at}
 
--- by move m of position p a piece arrives on square k or leaves it
+-- by move m of position p a piece arrives on square k or leaves it: the mover, the castling rook, or a pawn taken en
+-- passant
 abbrev pub is_changed : Setup → Move → ℕ → Bool
 is_changed p m k = (mover_end p m == k) || is_at (castling_rook_to p m) k
     || (is_at (second_square_emptied p m) k || (m.from == k))

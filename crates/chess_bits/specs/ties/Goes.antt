@@ -1,4 +1,5 @@
--- Where the pieces of the side on move go, whatever becomes of their king.
+-- Where the pieces of the side on move go, even if their king is then attacked (`man_goes` has castling only where it
+-- is legal); and which of them are free: their king is safe wherever they go.
 use Rattle.std.specs.Prelude.{◌≡◌, ℕ, ◌+◌, ◌-◌, ◌<◌, ◌==◌, nat_le, ◌&&◌, ◌||◌, Bool, true, false, Option, Some, None, if◌then◌else◌}
 use Rattle.chess_base.specs.declared.castling.Castle.{Castle}
 use Rattle.chess_base.specs.declared.man.CastlingSide.{CastlingSide}
@@ -28,7 +29,8 @@ use Rattle.chess_moves.specs.Sets.{contains}
 abbrev pub tried_promotion : Setup → ℕ → ℕ → Option Kind
 tried_promotion p a b = if would_promote p a b then Some Queen else None
 
--- some move from square a to square b is pseudo-legal: the one to a queen, if a pawn would promote
+-- the move from square a to square b with the promotion that is tried (to a queen, if a pawn would promote; otherwise
+-- none) is pseudo-legal. It is so exactly if some move from a to b is
 unfoldable pub goes : Setup → ℕ → ℕ → Bool
 goes p a b = is_pseudo_legal p (move_of a b (tried_promotion p a b))
 
@@ -39,7 +41,7 @@ names_end v c w None b = false
 names_end Normal c w (Some rook) b = b == home_square c (castled_king_file w)
 names_end Fischerandom c w (Some rook) b = b == rook
 
--- whether move m is legal, if it is castling (with the given squares); if it isn't, the answer is s
+-- if move m is castling (the third argument has its squares): whether it is legal; if it isn't castling (`None`): s
 abbrev pub legal_or : Setup → Move → Option Castle → Bool → Bool
 legal_or p m None s = s
 legal_or p m (Some castle) s = is_legal p m
@@ -49,7 +51,8 @@ abbrev pub castles_onto : Setup → CastlingSide → ℕ → ℕ → Bool
 castles_onto p w a b = names_end p.variant p.side w (right_of p.rights p.side w) b
     && legal_or p (move_of a b None) (castle_of p (move_of a b None)) false
 
--- a piece other than a pawn may go from a to b: by an ordinary pseudo-legal move, or by legal castling
+-- where a piece other than a pawn goes: if the move from a to b is castling, it is legal; otherwise the piece on a
+-- attacks b, and no own piece is there (`man_moves`)
 abbrev pub man_goes : Setup → ℕ → ℕ → Bool
 man_goes p a b = legal_or p (move_of a b None) (castle_of p (move_of a b None)) (man_moves p (move_of a b None))
 
@@ -78,12 +81,12 @@ pub record IsAhead (c : Colour) (s w : ℕ) : Type 0 where
   pub up : c ≡ White → (k : ℕ) → k < 64 → contains w k ≡ (nat_le 8 k && contains s (k - 8))
   pub down : c ≡ Black → (k : ℕ) → contains w k ≡ contains s (k + 8)
 
--- a pawn of colour c on square a would attack the given square, if there is one
+-- a pawn of colour c on square a would attack the given square; false if none is given
 abbrev pub aims_at : Option ℕ → Colour → ℕ → Bool
 aims_at None c a = false
 aims_at (Some t) c a = in_shape (shape.Pawn c) a t
 
--- a pawn of the side on move on square a would promote by its next move, or attacks the en passant target
+-- a pawn of the side on move, if it were on square a, would promote by its next move or attack the en passant target
 abbrev pub goes_specially : Setup → ℕ → Bool
 goes_specially p a = aims_at p.target p.side a || (rank a == pawn_rank (other p.side))
 

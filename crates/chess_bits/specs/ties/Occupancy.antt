@@ -5,12 +5,13 @@ use Rattle.chess_base.specs.declared.man.Kind.{Kind}
 use Rattle.chess_base.specs.Men.{Men, man_at, is_man}
 use Rattle.chess_moves.specs.Sets.{contains}
 
--- the set w has exactly the squares that are not empty
+-- of the 64 squares, the set w has exactly those that are not empty
 pub record IsOccupied (w : ℕ) (men : Men) : Type 0 where
   pub of_men : (k : ℕ) → k < 64 → contains w k ≡ not (is_none (man_at men k))
 
--- `later` are the pieces after a change, such as a move of the colour other than c: `filled` has the squares on which
--- pieces arrived, `changed` these and the ones that pieces left, and no piece of colour c arrived anywhere
+-- the pieces `men` become `later`, as by a move of the other colour than c: a square is occupied later exactly if it is
+-- in the set `filled`, or was occupied and is not in the set `changed`; a piece of colour c is on a square later
+-- exactly if it was there before and the square is not in `changed`
 pub record IsLater (changed filled : ℕ) (c : Colour) (men later : Men) : Type 0 where
   pub of_all : (k : ℕ) → k < 64 → (contains filled k || (not (is_none (man_at men k)) && not (contains changed k)))
       ≡ not (is_none (man_at later k))

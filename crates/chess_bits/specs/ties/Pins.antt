@@ -10,7 +10,8 @@ use Rattle.chess_base.specs.Squares.{share_rank_or_file, share_diagonal}
 use Rattle.chess_bits.specs.ties.Goes.{lifted}
 use Rattle.chess_moves.specs.Sets.{contains}
 
--- a queen, rook or bishop of the other side on square b would attack square k if nothing were between them
+-- on square b is a queen, rook or bishop of the side that is not on move, which would attack square k if nothing were
+-- between them
 abbrev pub aims_from : Setup → ℕ → ℕ → Bool
 aims_from p b k =
     ((is_man (other p.side) Rook (man_at p.men b) || is_man (other p.side) Queen (man_at p.men b))
@@ -22,8 +23,8 @@ aims_from p b k =
 abbrev pub KeepsClosed : Setup → ℕ → ℕ → ℕ → Type 0
 KeepsClosed p a b k = is_clear (lifted p.men a) b k ≡ true → is_clear p.men b k ≡ true
 
--- no piece but the one on s is between the squares b and k: without it the way is clear, and taking off any other piece
--- doesn't open it
+-- the way from b to k is clear with the piece on s taken off, and taking off any other piece doesn't open it
+-- (`KeepsClosed`): so if it is not clear, the one piece between b and k is on s
 pub record IsShield (p : Setup) (s b k : ℕ) : Type 0 where
   pub low : s < 64
   pub opens : is_clear (lifted p.men s) b k ≡ true

@@ -1,4 +1,5 @@
--- Rays: the squares of a line through a square, above it in number or below it.
+-- Rays, which are the squares of a line through a square, above it in number or below it; and whether a set leaves the
+-- way between two squares open.
 use Rattle.std.specs.Prelude.{ℕ, Bool, not, ◌&&◌}
 use Rattle.chess_base.specs.Squares.{is_between, each_square}
 use Rattle.chess_base.specs.declared.line.Line.{Line}

@@ -1,5 +1,7 @@
--- Whether some legal move passes a test, if only moves to one square without a promotion can pass: it is enough to test
--- one move from each square (any_by_start). For texts of moves and games.
+-- Whether some legal move passes a test, if only moves to one square `to` without a promotion can pass: it is enough to
+-- test one move from each square (any_by_start). The list of all moves is taken apart by start, end and promotion
+-- (any-filter, any-flat_map); all parts but the move to `to` without a promotion find nothing. For texts of moves and
+-- games.
 use Rattle.std.proofs.Common.{◌≡◌, ◌≢◌, ℕ, zero, suc, ◌<◌, inl, inr, Bool, true, false, ◌&&◌, ◌||◌, ◌==◌, Option, Some, None, List, [], ◌∷◌, map, refl, sym, ap, ◌∙◌, arith}
 use Rattle.std.proofs.{Math.Path.fun_ext, lemmas.List.Folds.list_any-append}
 use Rattle.std.proofs.lemmas.Bool.{cases_Bool, and_parts, false_from_ne_true, or_left, or_right, eqb-true, eqb-false}
@@ -45,7 +47,7 @@ pub any-square : (t : ℕ → Bool) (k : ℕ) → k < 64 → t k ≡ true → li
 unfolding squares
 any-square t k h e = any-from_below 64 (λ s. s) t k h e
 
--- where no square but one passes, it decides
+-- if no square but b passes, some square passes exactly if b does
 any-alone : (f : ℕ → Bool) (b : ℕ) → b < 64 → ((k : ℕ) → k ≢ b → f k ≡ false) → list_any f squares ≡ f b
 any-alone f b low away =
     elim (cases_Bool (f b)) [
@@ -110,7 +112,8 @@ none_elsewhere p t to a b all away =
       elsewhere p t to a b all away (Some Knight),
     ) refl
 
--- such a test need look at one move from each square alone
+-- if a test finds only legal moves to one square `to` without a promotion, some legal move passes it exactly if one
+-- without a promotion from some square to `to` is legal and passes
 pub any_by_start : (p : Setup) (t : Move → Bool) (to : ℕ) → to < 64 → AllFound p t to
     → list_any (λ a. t (move_of a to None) && is_legal p (move_of a to None)) squares ≡ list_any t (moves p)
 unfolding moves all_moves

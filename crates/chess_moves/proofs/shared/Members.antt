@@ -1,5 +1,7 @@
--- The squares of a set, one after another: none if it is empty (members_none), otherwise its first square and then
--- those of the set without it (members_first). For boards and texts of moves.
+-- The members of a set, its squares as a rising list: none if it is empty (members_none), otherwise the first square
+-- and then those of the set without it (members_first), and 64 at most (length_members). Lists gathered over them are
+-- those gathered over all 64 squares, if squares outside the set give none (flat_map_members). By induction over ranges
+-- of numbers, of which `squares` is one (by_range). For boards and texts of moves.
 use mathlib.Core.Bool.{and-true}
 use Rattle.std.proofs.Common.{◌≡◌, ℕ, zero, suc, ◌<◌, ◌≤◌, ◌+◌, inl, inr, Bool, true, false, not, ◌&&◌, ◌==◌, refl, sym, ◌∙◌, ap, arith, List, [], ◌∷◌, length}
 use Rattle.std.proofs.lemmas.Bool.{cases_Bool, lt-ltb, eq-eqb, ne_eqb, cases_lt}
@@ -8,7 +10,7 @@ use Rattle.std.specs.List.{range_with_len, filter, flat_map}
 use Rattle.chess_base.specs.Squares.{squares}
 use Rattle.chess_moves.specs.Sets.{contains, IsNearest, members}
 
--- no number of a range passes, so none is kept
+-- if none of the n numbers from a on passes, a filter keeps none of them
 pub filter_none : (p : ℕ → Bool) (n a : ℕ) → ((k : ℕ) → a ≤ k → k < a + n → p k ≡ false)
     → filter p (range_with_len a n) ≡ []
 filter_none p zero a h = refl
@@ -22,7 +24,8 @@ filter_same p q zero a h = refl
 filter_same p q (suc n) a h =
     rw (h a (omega arith) (omega arith), filter_same p q n (a + 1) (λ k l m. h k (omega arith) (omega arith))) refl
 
--- the first number of a range that passes, and those kept after it
+-- if f is the first of the n numbers from a on that passes p, and q is p but for f, a filter by p keeps f and then what
+-- a filter by q keeps
 pub filter_first : (p q : ℕ → Bool) (f n a : ℕ) → a ≤ f → f < a + n
     → p f ≡ true
     → ((k : ℕ) → k < f → p k ≡ false)
@@ -50,7 +53,7 @@ pub by_range : squares ≡ range_with_len 0 64
 unfolding squares
 by_range = refl
 
--- the members of a set are those of the range
+-- the members of a set are those of the 64 numbers from 0 on that are in it
 pub of_range : (w : ℕ) → members w ≡ filter (λ k. contains w k) (range_with_len 0 64)
 unfolding members
 of_range w = rw by_range refl
@@ -64,7 +67,7 @@ has_zero k = rw (bit_at-zero k) refl
 pub members_none : (w : ℕ) → w ≡ 0 → members w ≡ []
 members_none w e = of_range w ∙ filter_none (λ k. contains w k) 64 0 (λ k l m. rw e (has_zero k))
 
--- the members of a set: its first, and those of the set without it
+-- if f is the first square of the set w, and v is w without f, the members of w are f and then those of v
 pub members_first : (w v f : ℕ) → f < 64 → IsNearest true w f → ((k : ℕ) → k < 64 → contains v k ≡ (contains w k && not (k == f)))
     → members w ≡ f ∷ members v
 members_first w v f h n rest =
@@ -72,7 +75,7 @@ members_first w v f h n rest =
     (filter_first (λ k. contains w k) (λ k. contains v k) f 64 0 (omega arith) (omega arith) n.here
     (λ k l. n.nearer k (lt-ltb _ _ l)) rest (omega arith))
 
--- elements that give empty lists may be left out
+-- if f gives an empty list for each number that fails q, the lists of those that pass, joined, are those of all, joined
 flat_map-filter : {B : Type 0} (f : ℕ → List B) (q : ℕ → Bool) (n a : ℕ)
     → ((k : ℕ) → k < a + n → q k ≡ false → f k ≡ [])
     → flat_map f (filter q (range_with_len a n)) ≡ flat_map f (range_with_len a n)
@@ -85,7 +88,8 @@ flat_map-filter f q (suc n) a h =
       | inr off ↦ rw (off, rest, h a (omega arith) off) refl
     ]
 
--- the lists of a set's squares are those of all squares, if the others have none
+-- if f gives an empty list for each square outside the set w, the lists of its members, joined, are those of all
+-- squares, joined
 pub flat_map_members : {B : Type 0} (f : ℕ → List B) (w : ℕ) → ((k : ℕ) → k < 64 → contains w k ≡ false → f k ≡ [])
     → flat_map f (members w) ≡ flat_map f squares
 flat_map_members f w h =

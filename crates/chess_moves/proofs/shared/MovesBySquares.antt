@@ -1,5 +1,7 @@
--- The list of legal moves, put together from its parts: start square by start square (moves-by_start), and between two
--- squares with a promotion only if a pawn would promote (all_promote, none_promotes). For boards.
+-- The list of legal moves from its parts: start square by start square (moves-by_start), with none from a square
+-- without an own piece (none_from). Between two squares all name a promotion if a pawn would promote, otherwise none
+-- does (all_promote, none_promotes; by Reach). If all with some promotions fit into a list, the next one has room
+-- (room_for_next). For boards.
 use Rattle.std.proofs.Common.{◌≡◌, ℕ, zero, suc, ◌+◌, ◌<◌, ◌≤◌, Bool, true, false, Option, Some, None, List, [], ◌∷◌, ◌++◌, length, get_or, map, take, refl, ◌∙◌, ap, arith, inl, inr, length-append, filter, flat_map}
 use Rattle.std.proofs.{Math.Path.fun_ext, lemmas.Bool.cases_Bool, lemmas.Bool.false_from_ne_true, lemmas.Bool.both_ways, lemmas.List.Elements.filter-append}
 use Rattle.chess_base.specs.{declared.man.Kind.Kind, declared.man.Move.Move, declared.setup.Setup.Setup, Men.man_at, Men.is_of, Moves.is_legal, Squares.squares}
@@ -20,7 +22,7 @@ flat_map-empty : {A B : Type 0} (f : A → List B) (xs : List A) → ((x : A) �
 flat_map-empty f [] h = refl
 flat_map-empty f (x ∷ xs) h = rw (h x) (flat_map-empty f xs h)
 
--- the legal moves, start square by start square
+-- the list of legal moves is the lists from each start square, joined
 pub moves-by_start : (p : Setup) → moves p ≡ flat_map (λ a. moves_from p a) squares
 unfolding moves all_moves moves_from moves_between
 moves-by_start p =
@@ -28,13 +30,13 @@ moves-by_start p =
     ∙ ap (λ (f : ℕ → List Move). flat_map f squares)
     (fun_ext (λ a. filter-flat_map (λ m. is_legal p m) (λ b. map (move_of a b) promotions) squares))
 
--- where no promotion makes a move legal there is none between two squares
+-- if no move between two squares is legal, with whatever promotion, none of those with the promotions `kinds` is
 pub none_with : (p : Setup) (a b : ℕ) (kinds : List (Option Kind)) → ((k : Option Kind) → is_legal p (move_of a b k) ≡ false)
     → moves_with p a b kinds ≡ []
 none_with p a b [] h = refl
 none_with p a b (k ∷ ks) h = rw (h k) (none_with p a b ks h)
 
--- none from a square without an own piece
+-- from a square without a piece of the side on move there is no legal move
 pub none_from : (p : Setup) (a : ℕ) → is_of p.side (man_at p.men a) ≡ false → moves_from p a ≡ []
 unfolding moves_from moves_between
 none_from p a n =
@@ -46,7 +48,7 @@ none_from p a n =
 abbrev pub promoting : List (Option Kind)
 promoting = Some Queen ∷ Some Rook ∷ Some Bishop ∷ Some Knight ∷ []
 
--- with a promotion where a pawn would promote, and without one elsewhere
+-- where a pawn would promote, all legal moves between two squares name a promotion
 pub all_promote : (p : Setup) (a b : ℕ) → would_promote p a b ≡ true → moves_between p a b ≡ moves_with p a b promoting
 unfolding moves_between
 all_promote p a b e =

@@ -1,4 +1,5 @@
--- The squares of all pieces of a kind have the start of each legal move of that kind (all_men). For boards.
+-- A legal move begins on one of the 64 squares (begins_below). So the set of all pieces of a kind, of the side on move,
+-- has the start of each legal move of that kind (all_men): that is `HasOrigins`, for any end square. For boards.
 use Rattle.std.proofs.Common.{◌≡◌, ℕ, ◌<◌, true, ◌∙◌, arith}
 use Rattle.std.proofs.lemmas.Bool.Decides.{nat_tests}
 use Rattle.chess_base.specs.{declared.man.Kind.Kind, declared.man.Move.Move, declared.setup.Setup.Setup, Men.man_at, Men.is_man, Moves.is_legal, Moves.is_pseudo_legal}

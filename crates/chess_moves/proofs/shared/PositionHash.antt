@@ -1,5 +1,7 @@
--- How a position's hash changes as pieces come and go: it is the exclusive or of its parts (hash_apart), and a piece
--- that is put on a square or leaves it changes it by one key (hash_put, hash_lifted). For boards that keep their hash.
+-- Hashes by parts. A position's hash is the exclusive or of three: of its pieces, its side and its rights (hash_apart,
+-- rights_apart). A loop over the squares that joins their keys one by one gives that of the pieces (xor_turn, xor_end).
+-- A piece put on an empty square, or taken off its own, changes it by one key (hash_put, hash_lifted), as the keys of
+-- the other squares stay: by induction over the squares. For boards.
 use Rattle.std.proofs.Common.{◌≡◌, ◌≢◌, ℕ, zero, suc, ◌+◌, ◌<◌, ◌≤◌, inl, inr, List, [], ◌∷◌, ◌++◌, length, refl, sym, ◌∙◌, ap, arith, add-one, bit_xor, fold, Option, Some, None, set, get_or-set_same, get_or-set_other}
 use lib.Bits.{xor_assoc, xor_comm, xor_self, xor_zero_r}
 use Rattle.std.proofs.{lemmas.Bool.cases_lt, lemmas.List.Sums.fold-append}
@@ -16,13 +18,13 @@ xor_from a [] = sym (xor_zero_r a)
 xor_from a (n ∷ ns) = xor_from (bit_xor a n) ns ∙ xor_assoc a n (xor_of ns)
     ∙ ap (λ x. bit_xor a x) (sym (xor_from n ns))
 
--- the XOR of two lists, one after the other
+-- the exclusive or of two lists, one after the other, is that of both lists' exclusive ors
 pub xor_append : (ms ns : List ℕ) → xor_of (ms ++ ns) ≡ bit_xor (xor_of ms) (xor_of ns)
 xor_append ms ns = fold-append bit_xor 0 ms ns ∙ xor_from (xor_of ms) ns
 
 -- ---- a position's parts
 
--- the keys of the rights, one right after the other
+-- the exclusive or of the keys of all rights is that of the four rights' own, in the order in which the code joins them
 pub rights_apart : (r : Rights)
     → xor_of (rights_keys r)
     ≡ bit_xor
@@ -37,7 +39,7 @@ rights_apart r =
     xor_append (a ++ b ++ c) d
     ∙ ap (λ x. bit_xor x (xor_of d)) (xor_append (a ++ b) c ∙ ap (λ x. bit_xor x (xor_of c)) (xor_append a b))
 
--- a position's hash, by pieces, side and rights
+-- a position's hash is the exclusive or of three: of the keys of its pieces, of its side and of its rights
 pub hash_apart : (men : Men) (side : Colour) (rights : Rights)
     → position_hash men side rights
     ≡ bit_xor (bit_xor (xor_of (men_keys men)) (xor_of (side_keys side))) (xor_of (rights_keys rights))
@@ -50,14 +52,14 @@ hash_apart men side rights =
 
 -- ---- square by square
 
--- one turn of a loop over the squares, and its end
+-- one turn of a loop over the squares: with the keys of square k joined, the hash is that of the squares up to k
 pub xor_turn : (g : ℕ → List ℕ) (hash k : ℕ) → hash ≡ xor_of (flat_map g (numbers k))
     → bit_xor hash (xor_of (g k)) ≡ xor_of (flat_map g (numbers (k + 1)))
 xor_turn g hash k e =
     ap (λ x. bit_xor x (xor_of (g k))) e ∙ sym (xor_append (flat_map g (numbers k)) (g k))
     ∙ ap (λ ns. xor_of ns) (sym (gathered-more g k)) ∙ ap (λ v. xor_of (flat_map g (numbers v))) (sym (add-one k))
 
--- after all 64 squares a hash is that of the pieces
+-- at the loop's end, after all 64 squares, the hash is that of all pieces
 pub xor_end : (men : Men) (hash k : ℕ) → hash ≡ xor_of (flat_map (keys_on men) (numbers k)) → k ≡ 64
     → hash ≡ xor_of (men_keys men)
 unfolding men_keys squares
@@ -71,7 +73,7 @@ same_lists f g (suc n) a same =
     ap (λ xs. xs ++ flat_map g (range_with_len (a + 1) n)) (same a (omega arith) (omega arith))
     ∙ ap (λ xs. f a ++ xs) (same_lists f g n (a + 1) (λ k l h. same k (omega arith) (omega arith)))
 
--- numbers without elements give an empty list
+-- if g k is empty for each of the n numbers k from a on, the lists g k, joined, are empty
 pub no_lists : (g : ℕ → List ℕ) (n a : ℕ) → ((k : ℕ) → a ≤ k → k < a + n → g k ≡ [])
     → flat_map g (range_with_len a n) ≡ []
 no_lists g zero a none = refl
@@ -79,7 +81,7 @@ no_lists g (suc n) a none =
     ap (λ xs. xs ++ flat_map g (range_with_len (a + 1) n)) (none a (omega arith) (omega arith))
     ∙ no_lists g n (a + 1) (λ k l h. none k (omega arith) (omega arith))
 
--- the keys of an empty board, and of boards with the same pieces
+-- a board without pieces has no keys of pieces
 pub no_men_keys : (men : Men) → ((k : ℕ) → k < 64 → man_at men k ≡ None) → men_keys men ≡ []
 unfolding men_keys
 no_men_keys men none =
@@ -131,7 +133,7 @@ men_changed men s d o all low e =
     (omega arith)
     (omega arith))
 
--- a piece comes to an empty square, or leaves its own: the hash changes by its key
+-- a piece is put on an empty square: the hash of the pieces, joined with its key, is that of the new list of pieces
 pub hash_put : (men : Men) (s : ℕ) (x : Man) (hash change : ℕ) → length men ≡ 64 → s < 64 → man_at men s ≡ None
     → hash ≡ xor_of (men_keys men) → change ≡ man_key x s
     → bit_xor hash change ≡ xor_of (men_keys (set men s (Some x)))
@@ -140,7 +142,7 @@ hash_put men s x hash change all low bare e f =
     ∙ sym (men_changed men s (man_key x s) (Some x) all low
     (ap (λ v. bit_xor (xor_of (square_keys s v)) (man_key x s)) (sym bare)))
 
--- the hash of the pieces without the one of a square
+-- a piece is taken off its square: the hash of the pieces, joined with its key, is that of the new list of pieces
 pub hash_lifted : (men : Men) (s : ℕ) (x : Man) (hash change : ℕ) → length men ≡ 64 → s < 64 → man_at men s ≡ Some x
     → hash ≡ xor_of (men_keys men) → change ≡ man_key x s
     → bit_xor hash change ≡ xor_of (men_keys (set men s None))

@@ -1,4 +1,4 @@
--- The legal moves from one square, and those to another.
+-- The legal moves from one square, and those from one square to another, as lists.
 use Rattle.std.specs.Prelude.{ℕ, Option, List, map, filter, flat_map}
 use Rattle.chess_base.specs.declared.man.Kind.{Kind}
 use Rattle.chess_base.specs.declared.man.Move.{Move}
@@ -7,7 +7,8 @@ use Rattle.chess_base.specs.Moves.{is_legal}
 use Rattle.chess_base.specs.MoveList.{promotions, move_of}
 use Rattle.chess_base.specs.Squares.{squares}
 
--- the legal moves from square a to square b with one of the promotions `kinds` (`None`: without a promotion)
+-- the legal moves from square a to square b with one of the promotions `kinds` (`None`: without a promotion), in the
+-- order of these
 abbrev pub moves_with : Setup → ℕ → ℕ → List (Option Kind) → List Move
 moves_with p a b kinds = filter (λ m. is_legal p m) (map (move_of a b) kinds)
 
@@ -15,6 +16,6 @@ moves_with p a b kinds = filter (λ m. is_legal p m) (map (move_of a b) kinds)
 unfoldable pub moves_between : Setup → ℕ → ℕ → List Move
 moves_between p a b = moves_with p a b promotions
 
--- the legal moves from square a, rising by end square
+-- all legal moves from square a, rising by end square, and with the same end in the order of `promotions`
 unfoldable pub moves_from : Setup → ℕ → List Move
 moves_from p a = flat_map (λ b. moves_between p a b) squares

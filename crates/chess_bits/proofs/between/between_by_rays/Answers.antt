@@ -1,4 +1,5 @@
--- What lies between two squares lies between them the other way round (between_back, of chess_base).
+-- If a is not the lower square, the two are exchanged: what lies between two squares lies between them the other way
+-- round (between_back of chess_base).
 use Rattle.std.proofs.Common.{◌∙◌}
 use Rattle.chess_base.specs.shared.Lines.{line_number}
 use Rattle.chess_base.proofs.{shared.Geometry.between_back, shared.MenAfter.eqb_comm}

@@ -1,4 +1,5 @@
--- The list has room for each move, since it has room for all of them (room_onto of Listed).
+-- The list has room for each move that is pushed: the moves to all squares fit by the contract, and this one is among
+-- those that are left (room_onto of Listed).
 use Rattle.std.proofs.Common.{◌++◌, ◌≤◌, None, length, map, lit<, length-append, arith}
 use Rattle.std.proofs.lemmas.List.{length-map}
 use Rattle.chess_base.specs.MoveList.{move_of}

@@ -1,5 +1,5 @@
--- The loop's invariant: the moves in the list, and those to the squares in `rest`, are the moves to all the squares.
--- The measure is the number of squares in `rest`.
+-- The loop's invariant: the list so far, followed by a move to each square in `rest`, is the list as it was, followed
+-- by a move to each square of the whole set. The measure is the number of squares in `rest`.
 use Rattle.std.proofs.Common.{◌≡◌, ◌++◌, None, length, map}
 use Rattle.chess_base.specs.MoveList.{move_of}
 use Rattle.chess_moves.specs.Sets.{members}

@@ -1,4 +1,5 @@
--- The list has room for each move, since it has room for all of them (room_for_each of Listed).
+-- The list has room for each move that is pushed: the moves for all promotions fit by the contract, and this one is
+-- among them (room_for_each of Listed).
 use Rattle.std.proofs.Common.{lit<}
 use Rattle.chess_base.specs.MoveList.{move_of}
 use Rattle.chess_bits.proofs.Listed.{room_for_each}

@@ -1,4 +1,4 @@
--- The loop's invariant: the list has a move for each promotion so far.
+-- The loop's invariant: to the list as it was, a move for each promotion before the current one was appended.
 use Rattle.std.proofs.Common.{◌≡◌, ◌++◌, map, take}
 use Rattle.chess_base.specs.MoveList.{move_of}
 use Rattle.chess_bits.proofs.listing.add_moves_with.Given as goal

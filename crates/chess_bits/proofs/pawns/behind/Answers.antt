@@ -1,4 +1,5 @@
--- Against the way of one colour is the way of the other, so this is `ahead` of the other colour.
+-- A square from rank 2 on is in the result exactly if the next square ahead of it, for this colour, is in the set:
+-- against the way of one colour is the way of the other, so it is `ahead` of the other colour (back).
 use Rattle.std.proofs.Common.{◌≡◌, ℕ, ◌<◌, ◌≤◌, refl, ◌∙◌, le-leb}
 use Rattle.chess_base.specs.{declared.man.Colour.Colour, declared.man.Colour.TheVariants.White, declared.man.Colour.TheVariants.Black, Men.forward, Men.other}
 use Rattle.chess_bits.specs.ties.Goes.{IsAhead}

@@ -1,4 +1,5 @@
--- If the move captured en passant, the square to which that pawn goes back is on the board (captured_in_board of Made).
+-- What `steps_back` requires: if the move captured en passant, the square to which that pawn goes back is on the board
+-- (captured_in_board of Made).
 use Rattle.chess_moves.proofs.shared.Made.{captured_in_board}
 use Rattle.chess_bits.proofs.placing.move_back.Goals as goal
 

@@ -1,5 +1,5 @@
--- The loop's invariant: bit 0 of `occupied` is for the square that was looked at last, bit 1 for the one before it, and
--- so on up to h8.
+-- The loop's invariant, after `number` squares from h8 down: bit 0 of `occupied` says whether the square looked at last
+-- is occupied, bit 1 says it of the one before it, and so on up to h8, whose bit is `number` - 1.
 use Rattle.std.proofs.Common.{◌≡◌, ℕ, ◌<◌, ◌+◌, ◌-◌, not, is_none}
 use Rattle.chess_base.specs.Men.{man_at}
 use Rattle.chess_moves.specs.Sets.{contains}

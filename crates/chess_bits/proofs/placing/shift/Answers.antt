@@ -1,5 +1,7 @@
--- The move takes a piece from one square to another and changes no more (Shifts of Making): so two writes give the
--- position after it (after_shift), and what was on the end square is what was captured (saved_shifting).
+-- Three clauses: the setup after is the position after the move (after_shift of Making), what is returned is what
+-- `saved_of` saves (saved_shifting), and the sets are those of the pieces. The move takes a piece from one square to
+-- another and changes no more (`Shifts`), so two writes are enough, and what was on the end square is captured. Two
+-- goals are what `rights_left` and `target_left` require: the mover is on the start square.
 use Rattle.std.proofs.Common.{◌≡◌, ◌≢◌, ◌<◌, length, length-set, set, get_or-set_other, Some, None, ap, sym, ◌∙◌, subst}
 use Rattle.chess_base.specs.Men.{man_at}
 use Rattle.chess_bits.proofs.BoardSets.{cleared}

@@ -1,4 +1,5 @@
--- The pieces after the steps are those after the four writes, in the same order (men_stepped-written of Writes).
+-- The clause `men`: the pieces after the four writes are `men_stepped`, the definition of what the steps do, which
+-- writes the same squares in the same order (men_stepped-written of Writes).
 use Rattle.std.proofs.Common.{sym, arith}
 use Rattle.chess_base.proofs.shared.Writes.{men_stepped-written}
 use Rattle.chess_bits.proofs.placing.take_steps.Goals as goal

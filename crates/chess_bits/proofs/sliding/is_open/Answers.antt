@@ -1,5 +1,5 @@
--- The line is open exactly if no square between a and b is in the set of occupied ones (open_between of
--- BetweenSquares).
+-- The result is whether no square between a and b, which are on one line, is occupied: the table has the squares
+-- between them (open_between of BetweenSquares).
 use Rattle.std.proofs.Common.{◌<◌, subst}
 use Rattle.chess_bits.proofs.BetweenSquares.{open_between}
 use Rattle.chess_bits.proofs.sliding.is_open.Goals as goal

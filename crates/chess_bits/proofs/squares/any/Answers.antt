@@ -1,5 +1,6 @@
--- The first square that is left is of the set (first_in of Starts). If it passes, some square does; if not, the others
--- decide.
+-- The result is whether some square of the set passes; and each call of the test is allowed, since the first square of
+-- `rest` is of the set (first_in of Starts). If it passes, some square does (one_passes); if not, the others decide
+-- (one_fails), so the invariant stays; at the end none is left.
 use Rattle.std.proofs.Common.{◌≡◌, ℕ, Bool, ◌==◌, List, ◌∷◌, true, false, refl, sym, ap, ◌∙◌}
 use Rattle.std.specs.List.{list_any}
 use Rattle.std.proofs.lemmas.Bool.{or_right}

@@ -1,5 +1,5 @@
--- The loop's invariant: no square so far passes the test, so some square of the set does exactly if one in `rest` does.
--- The measure is the number of squares in `rest`.
+-- The loop's invariant: the squares in `rest` are of the set; and some square of the set passes the test exactly if one
+-- in `rest` does, since none so far does. The measure is the number of squares in `rest`.
 use Rattle.std.proofs.Common.{◌≡◌, ℕ, Bool, ◌<◌, true, length}
 use Rattle.std.specs.List.{list_any}
 use Rattle.chess_moves.specs.Sets.{contains, members}

@@ -1,5 +1,6 @@
--- The first square that is left is of the set, and what the test says of it is whether it is chosen; nothing changes
--- for the others.
+-- The test may be called, since the first square of `rest` is of the set (first_in of Starts). It leaves `rest`, and is
+-- chosen as the test answers for it, while nothing changes for the others (chosen_next): so the invariant stays. At the
+-- end `rest` is empty, so each square of the set is chosen as the test answered (the clause `inside`).
 use mathlib.Core.Bool.{and-false, and-true, or-false}
 use Rattle.std.proofs.Common.{◌≡◌, ℕ, ◌<◌, ◌==◌, ◌&&◌, ◌||◌, Bool, inl, inr, false, refl, sym, ap, subst, ◌∙◌}
 use Rattle.std.proofs.lemmas.Bool.{both_ways, cases_Bool, eq-eqb, eqb-true, false_from_ne_true, or_right}

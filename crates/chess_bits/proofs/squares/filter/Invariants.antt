@@ -1,5 +1,6 @@
--- The loop's invariant: the squares in `rest` are of the set and not chosen yet; each of its other squares is chosen as
--- the test answered for it. The measure is the number of squares in `rest`.
+-- The loop's invariant: the squares in `rest` are of the set and not chosen yet; each other square of the set is chosen
+-- or not as the test answered for it; and no square outside the set is chosen. The measure is the number of squares in
+-- `rest`.
 use Rattle.std.proofs.Common.{◌≡◌, ℕ, ◌<◌, true, false, length}
 use Rattle.chess_moves.specs.Sets.{contains, members}
 use Rattle.chess_bits.proofs.squares.filter.Given as goal

@@ -1,4 +1,4 @@
--- The loop's invariant: the set has the squares of the shape that are before `number`.
+-- The loop's invariant: the set has just those squares before `number` that belong to the shape from a.
 use Rattle.std.proofs.Common.{◌≡◌, ℕ, ◌&&◌, nat_lt}
 use Rattle.chess_moves.specs.Sets.{contains}
 use Rattle.chess_bits.specs.ties.Shapes.{in_shape}

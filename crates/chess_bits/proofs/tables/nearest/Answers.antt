@@ -1,4 +1,5 @@
--- The board's last square was added, so the set isn't empty, and has a nearest square (with_end of Blockers).
+-- What `first` and `last` require: the set isn't empty, since the board's last square in that direction was added
+-- (with_end of Blockers).
 use Rattle.std.proofs.Common.{refl}
 use Rattle.chess_bits.proofs.Blockers.{with_end}
 use Rattle.chess_bits.proofs.tables.nearest.Goals as goal

@@ -1,5 +1,6 @@
--- Each turn joins the key of the piece on its square, if there is one, to the hash so far (xor_turn of PositionHash);
--- after 64 turns it is the hash of all pieces (xor_end).
+-- The result is the exclusive or of the keys of all pieces. By the loop's invariant `hash` is that of the pieces on the
+-- squares before `number`; each turn joins the key of the piece on its square, or 0 if it is empty (xor_turn of
+-- PositionHash), and after 64 turns all squares are joined (xor_end).
 use Rattle.std.proofs.Common.{◌≡◌, ℕ, ◌∙◌, ap, arith}
 use Rattle.chess_base.specs.Men.{man_at}
 use Rattle.chess_moves.specs.PositionHash.{square_keys, keys_on, xor_of}

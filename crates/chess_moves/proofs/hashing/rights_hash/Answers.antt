@@ -1,4 +1,5 @@
--- The exclusive or of all rights' keys is that of each right's (rights_apart of PositionHash).
+-- The exclusive or of the four rights' parts (a key, or 0 without the right) is that of the list of all rights' keys
+-- (rights_apart of PositionHash).
 use Rattle.std.proofs.Common.{sym}
 use Rattle.chess_moves.proofs.shared.PositionHash.{rights_apart}
 use Rattle.chess_moves.proofs.hashing.rights_hash.Goals as goal

@@ -1,4 +1,5 @@
--- The loop's invariant: the set has the squares before `number` from which the move is legal.
+-- The loop's invariant: the set has just those squares before `number` that hold a piece of this kind, of the side on
+-- move, whose move to `to` without a promotion is legal.
 use Rattle.std.proofs.Common.{◌≡◌, ℕ, ◌&&◌, None, nat_lt}
 use Rattle.chess_base.specs.{Men.man_at, Men.is_man, MoveList.move_of, Moves.is_legal}
 use Rattle.chess_moves.specs.Sets.{contains}

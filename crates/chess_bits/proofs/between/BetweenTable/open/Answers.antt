@@ -1,4 +1,5 @@
--- The entry that is written is that of its pair, and those below stay (paired_more of BetweenSquares).
+-- A turn keeps the invariant: the entry that is written, at the index 64 a + b, has the squares between a and b if they
+-- are on one line, and the entries before it stay (paired_more of BetweenSquares).
 use Rattle.std.proofs.Common.{arith, ◌∙◌, length-set}
 use Rattle.chess_bits.proofs.BetweenSquares.{paired_more}
 use Rattle.chess_bits.proofs.between.BetweenTable.open.Goals as goal

@@ -1,4 +1,5 @@
--- The loop's invariant: the entries before `number` are those of their pairs of squares (AreBetween of BetweenSquares).
+-- The loop's invariant: each entry before `number`, at the index 64 a + b, has the squares between a and b, if these
+-- two are on one line (`AreBetween` of BetweenSquares).
 use Rattle.std.proofs.Common.{◌≡◌, length}
 use Rattle.chess_bits.proofs.BetweenSquares.{AreBetween}
 use Rattle.chess_bits.proofs.between.BetweenTable.open.Given as goal

@@ -1,4 +1,5 @@
--- A king promotes nothing, so there is one move to each square where it may go (king_listed of KingListed).
+-- The list gets exactly the king's legal moves, and has room for them: a king promotes nothing, so it has one legal
+-- move to each square where one ends (king_listed of KingListed).
 use Rattle.std.proofs.Common.{◌++◌, List, sym, ap, ◌∙◌, arith}
 use Rattle.chess_base.specs.declared.man.Move.{Move}
 use Rattle.chess_bits.proofs.KingListed.{king_counted, king_listed}

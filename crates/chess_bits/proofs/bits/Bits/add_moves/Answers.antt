@@ -1,5 +1,5 @@
--- All legal moves are those of the own pieces (from_men of Listed), and all of a sound position fit into a list
--- (fits_from).
+-- The invariant holds at first: the moves of all own pieces are all legal moves (from_men of Listed). Each call has
+-- room: all legal moves of a sound position fit into a list, so those of the next piece do (fits_from).
 use Rattle.std.proofs.Common.{◌≡◌, ◌<◌, ℕ}
 use Rattle.chess_base.specs.{Men.man_at, Men.is_of, Sound.IsSound}
 use Rattle.chess_moves.specs.Sets.{contains}

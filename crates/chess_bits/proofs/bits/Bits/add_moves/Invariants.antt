@@ -1,5 +1,5 @@
--- The loop's invariant: the moves in the list, and those of the pieces in `men`, which are left, are all legal moves.
--- The measure is the number of squares in `men`.
+-- The loop's invariant: the list so far, followed by the legal moves of the pieces in `men`, which are left, is the
+-- list of all legal moves. The measure is the number of squares in `men`.
 use Rattle.std.proofs.Common.{◌≡◌, ◌++◌, length, flat_map}
 use Rattle.chess_base.specs.MoveList.{moves}
 use Rattle.chess_moves.specs.{shared.MovesBySquares.moves_from, Sets.members}

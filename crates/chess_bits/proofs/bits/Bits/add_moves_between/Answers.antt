@@ -1,5 +1,5 @@
--- The promotions with which the move is legal give one move each, and these are all legal moves between the two
--- squares.
+-- The list gets exactly the legal moves between the two squares, and there is room for them: `legal_promotions` gives
+-- one promotion (or `None`) for each of these moves, so their numbers are equal too.
 use Rattle.std.proofs.Common.{◌≡◌, ◌++◌, List, length, sym, ap, ◌∙◌, arith}
 use Rattle.std.proofs.lemmas.List.{length-map}
 use Rattle.chess_base.specs.{declared.man.Move.Move, MoveList.move_of}

@@ -1,4 +1,5 @@
--- Each legal move of the piece ends on one of the squares, so the moves to these are all (from_targets of Listed).
+-- The invariant holds at first: each legal move of the piece ends on one of the squares, so the moves to these are all
+-- of its moves (from_targets of Listed). Each call has room, since all of them fit by the contract (room_for).
 use Rattle.std.proofs.Common.{◌≡◌, ◌++◌, ◌≤◌, length, true, ap, length-append, arith}
 use Rattle.chess_moves.specs.shared.MovesBySquares.{moves_between, moves_from}
 use Rattle.chess_bits.specs.ties.Goes.{goes}

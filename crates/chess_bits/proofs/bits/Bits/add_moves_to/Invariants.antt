@@ -1,5 +1,6 @@
--- The loop's invariant: the list has the moves to the squares so far; those to the squares in `targets`, to each of
--- which the piece goes, complete it. The measure is the number of squares in `targets`.
+-- The loop's invariant: the list so far, followed by the legal moves to the squares in `targets`, is the list as it
+-- was, followed by all legal moves from the start; and the piece goes to each square in `targets`. The measure is the
+-- number of squares in `targets`.
 use Rattle.std.proofs.Common.{◌≡◌, ◌++◌, length, true, flat_map}
 use Rattle.chess_moves.specs.{shared.MovesBySquares.moves_between, shared.MovesBySquares.moves_from, Sets.members}
 use Rattle.chess_bits.specs.ties.Goes.{goes}

@@ -1,5 +1,6 @@
--- A free piece leaves its king safe wherever it goes; as it neither promotes nor takes en passant, it has just one
--- legal move to each target (free_listed of Freely).
+-- The list gets exactly the piece's legal moves, and has room for them. A free piece leaves its king safe wherever it
+-- goes; as it neither promotes nor takes en passant, it has just one legal move to each of its targets (free_listed of
+-- Freely).
 use Rattle.std.proofs.Common.{◌<◌, ◌++◌, List, None, length, sym, ap, subst, ◌∙◌, arith}
 use Rattle.std.proofs.lemmas.List.{length-map}
 use Rattle.chess_base.specs.{declared.man.Move.Move, MoveList.move_of, Sound.IsSound}

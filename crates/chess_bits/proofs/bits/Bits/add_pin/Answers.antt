@@ -1,5 +1,6 @@
--- The shield has legal moves only to the evasions: squares where it still shields, the pinner's, or the en passant
--- target (answered of Pins). For the other pieces nothing changes.
+-- The clause `evasions`, where there is a shield, which is no longer free: each of its legal moves ends between pinner
+-- and king, on the pinner, or on the en passant target (answered of Pins), and these evasions are added. A piece that
+-- was not free before keeps the evasions that it had.
 use Rattle.chess_base.proofs.shared.Kings.{one_king_of}
 use Rattle.std.proofs.Common.{◌≡◌, ◌<◌, inl, inr, true, sym, subst, ap, ◌∙◌}
 use Rattle.std.proofs.lemmas.Bool.{eqb-true, or_left, or_right}

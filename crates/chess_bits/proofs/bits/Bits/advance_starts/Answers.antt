@@ -1,5 +1,6 @@
--- A pawn goes straight ahead onto an empty square only: one step, or two from its home rank if the square between is
--- empty too (none_onto, advances_are of PawnStarts).
+-- On each square with a pawn, the result is whether that pawn advances to `to`: to an occupied square none does
+-- (none_onto of PawnStarts), to an empty one by one step, or by two from its home rank if the square between is empty
+-- too (advances_are).
 use mathlib.Core.Bool.{not-not}
 use Rattle.std.proofs.Common.{◌≡◌, ◌<◌, ◌==◌, ◌||◌, false, true, not, is_none, sym, ap, subst, ◌∙◌}
 use Rattle.chess_base.specs.{Men.man_at, Squares.rank, Sound.no_pawn_on_end_ranks}

@@ -1,6 +1,6 @@
--- If the square ahead holds a piece, the pawn doesn't advance (blocked of TargetsOf); off its home rank it goes just
--- there (one_only), from home also to the second square, if that is empty (two_too). A pawn is on neither end rank, so
--- the square ahead of it is on the board (off_lowest, on_board of OriginsOf).
+-- The result has just the squares to which the pawn advances. If the square ahead is occupied, there are none (blocked
+-- of TargetsOf); off the home rank just that square (one_only), from home also the second if it is empty (two_too). A
+-- pawn is on neither end rank, so the square ahead is on the board (off_lowest, on_board of OriginsOf).
 use mathlib.Core.Bool.{not-not}
 use Rattle.std.proofs.Common.{◌≡◌, ◌<◌, ◌≤◌, ◌==◌, ◌&&◌, ℕ, not, true, is_none, sym, arith, ◌∙◌}
 use Rattle.chess_base.specs.Men.{forward, is_man, man_at, pawn_rank}

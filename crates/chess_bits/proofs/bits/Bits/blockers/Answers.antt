@@ -1,5 +1,5 @@
--- The king and the piece that aims at it are on one line, so the table has what is between them (by_line of
--- BetweenSquares).
+-- The result has just the occupied squares between: king and possible pinner are on one line (aims_on_line of Pins), so
+-- the table has the squares between them (by_line of BetweenSquares).
 use Rattle.std.proofs.Common.{◌<◌, refl, subst, ◌∙◌}
 use Rattle.chess_bits.proofs.{BetweenSquares.by_line, Pins.aims_on_line}
 use Rattle.chess_bits.proofs.bits.Bits.blockers.Goals as goal

@@ -1,4 +1,5 @@
--- A pawn captures on the squares it attacks that hold an enemy or are the target (captures_is of TargetsOf).
+-- The result has just the squares where the pawn captures: those that it attacks and that hold an enemy piece or are
+-- the en passant target (captures_is of TargetsOf).
 use Rattle.std.proofs.Common.{◌≡◌, ◌∙◌, true}
 use Rattle.chess_base.specs.{declared.man.Kind.TheVariants.Pawn, Men.man_at, Men.is_man}
 use Rattle.chess_bits.proofs.{Reached.pawn_from, TargetsOf.captures_is}

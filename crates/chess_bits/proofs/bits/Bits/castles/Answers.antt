@@ -1,4 +1,6 @@
--- The way is safe where no square from the king's start to its end is attacked (way_is_safe of CastlingBySets).
+-- The result is whether the way is empty and safe. If `is_way_empty` is true, `is_safe_way` decides: the definition
+-- asks of each square of the king's way that it isn't attacked, and `walk` has just these (way_is_safe of
+-- CastlingBySets).
 use Rattle.std.proofs.Common.{sym, ◌∙◌}
 use Rattle.chess_moves.specs.Sets.{contains}
 use Rattle.chess_bits.proofs.CastlingBySets.{way_is_safe}

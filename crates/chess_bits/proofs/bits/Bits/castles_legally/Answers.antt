@@ -1,4 +1,5 @@
--- King and rook each go along one rank, as `castles` requires of a castling (on_rank of CastlingBySets).
+-- What `castles` requires: king and rook each start and end on one rank, as in each castling of a sound position
+-- (on_rank of CastlingBySets).
 use Rattle.chess_bits.proofs.CastlingBySets.{on_rank}
 use Rattle.chess_bits.proofs.bits.Bits.castles_legally.Goals as goal
 

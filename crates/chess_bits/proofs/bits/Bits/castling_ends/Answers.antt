@@ -1,4 +1,5 @@
--- A castling goes to one side or the other, so its end squares are those of both sides (to_either_side of TargetsOf).
+-- The result has just the ends of the king's legal castlings: a castling goes to one side or the other, so these are
+-- the ends of both sides, joined (to_either_side of TargetsOf).
 use Rattle.std.proofs.Common.{◌∙◌}
 use Rattle.chess_bits.proofs.TargetsOf.{to_either_side}
 use Rattle.chess_bits.proofs.bits.Bits.castling_ends.Goals as goal

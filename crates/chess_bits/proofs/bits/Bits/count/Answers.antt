@@ -1,6 +1,6 @@
--- Each call counts the moves of the pieces that it takes out of the set, and leaves the others to the next. So the sum
--- counts the moves of all own pieces, which are all legal moves (from_men of Listed), 896 at most (some_fit of
--- Counted).
+-- The result is the number of all legal moves, and no sum overflows. Each call counts the moves of the pieces that it
+-- takes out of the set, and leaves the others to the next. So the sum counts the moves of all own pieces, which are all
+-- legal moves (from_men of Listed); those of some pieces are 896 at most (some_fit of Counted).
 use Rattle.std.proofs.Common.{◌≡◌, ◌<◌, ℕ, length, ap, arith}
 use Rattle.chess_base.specs.Men.{man_at, is_of}
 use Rattle.chess_moves.specs.Sets.{contains}

@@ -1,4 +1,5 @@
--- The promotions with which the move is legal give one move each, so their number is that of the legal moves.
+-- `legal_promotions` gives one promotion (or `None`) for each legal move between the two squares, so the numbers of
+-- both are equal.
 use Rattle.std.proofs.Common.{length, sym, ap, ◌∙◌}
 use Rattle.std.proofs.lemmas.List.{length-map}
 use Rattle.chess_base.specs.MoveList.{move_of}

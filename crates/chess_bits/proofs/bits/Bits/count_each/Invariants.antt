@@ -1,5 +1,5 @@
--- The loop's invariant: the moves counted, and those of the pieces in `rest`, are the moves of all the pieces. The
--- measure is the number of squares in `rest`.
+-- The loop's invariant: the number counted so far, and the number of legal moves of the pieces in `rest`, add up to
+-- that of all the pieces. The measure is the number of squares in `rest`.
 use Rattle.std.proofs.Common.{◌≡◌, ◌+◌, length, flat_map}
 use Rattle.chess_moves.specs.{shared.MovesBySquares.moves_from, Sets.members}
 use Rattle.chess_bits.proofs.bits.Bits.count_each.Given as goal

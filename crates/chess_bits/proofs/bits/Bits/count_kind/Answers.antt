@@ -1,4 +1,6 @@
--- The pieces are those taken and those left, and their legal moves add up in the same way (split of KindsCounted).
+-- The pieces before are those taken out and those left, so the moves of both together are the moves of all (split of
+-- KindsCounted), whether pawns or other pieces are counted. The moves of the pieces taken fit into a list, as
+-- `count_officers` requires (some_fit of Counted).
 use Rattle.std.proofs.Common.{◌+◌, length, ap, ◌∙◌, flat_map}
 use Rattle.chess_moves.specs.{shared.MovesBySquares.moves_from, Sets.members}
 use Rattle.chess_bits.proofs.{Counted.some_fit, KindsCounted.split}

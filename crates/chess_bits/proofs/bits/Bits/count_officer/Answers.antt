@@ -1,5 +1,5 @@
--- A free piece leaves its king safe wherever it goes, so it has one legal move to each square where it goes
--- (officer_counted of KindsCounted).
+-- The number of targets is that of the piece's legal moves: a free piece leaves its king safe wherever it goes, so it
+-- has one legal move to each square that it attacks and no own piece holds (officer_counted of KindsCounted).
 use Rattle.std.proofs.Common.{◌<◌, subst, ◌∙◌}
 use Rattle.chess_base.specs.Sound.{IsSound}
 use Rattle.chess_bits.proofs.KindsCounted.{officer_counted}

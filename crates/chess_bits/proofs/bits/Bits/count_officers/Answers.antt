@@ -1,4 +1,5 @@
--- What holds on each square of a set holds of its members (each_member), so every piece that the loop meets is free.
+-- The invariant holds at first: what the contract says of each square of the set, that a free piece of the kind is
+-- there, holds of each of its members (each_member of Listed).
 use Rattle.std.proofs.Common.{◌≡◌, true, refl}
 use Rattle.chess_base.specs.Men.{man_at, is_man}
 use Rattle.chess_bits.specs.ties.Goes.{IsFree}

@@ -1,5 +1,6 @@
--- The loop's invariant: the moves counted, and those of the pieces in `rest`, each of them free, are the moves of all
--- the pieces. The measure is the number of squares in `rest`.
+-- The loop's invariant: the number counted so far, and the number of legal moves of the pieces in `rest`, add up to
+-- that of all the pieces; and each piece in `rest` is free and of this kind. The measure is the number of squares in
+-- `rest`.
 use Rattle.std.proofs.Common.{◌≡◌, ◌+◌, length, true, flat_map}
 use Rattle.chess_base.specs.Men.{man_at, is_man}
 use Rattle.chess_bits.specs.ties.Goes.{IsFree}

@@ -1,5 +1,6 @@
--- Each pawn has as many legal moves as ways are open to it (pawns_counted of PawnsCounted), and the sets computed are
--- those of the pawns to which each way is open (ways_are).
+-- The sum of the four sets is the number of these pawns' legal moves: each pawn has one for each of the four ways (one
+-- step, two steps, a capture left or right) that is open to it (pawns_counted of PawnsCounted), and the sets computed
+-- are those of the pawns to which each way is open (ways_are).
 use Rattle.std.proofs.Common.{◌≡◌, ◌<◌, ◌==◌, ℕ, true, false, ap, ◌∙◌}
 use Rattle.chess_base.specs.{declared.man.Kind.TheVariants.Pawn, Men.man_at, Men.is_of, Squares.rank}
 use Rattle.chess_moves.specs.Sets.{contains}

@@ -1,4 +1,5 @@
--- Each legal move of the piece ends on one of the squares, so the moves to these are all (from_targets of Listed).
+-- The invariant holds at first: each legal move of the piece ends on one of the squares, so the moves to these are all
+-- of its moves (from_targets of Listed).
 use Rattle.std.proofs.Common.{◌≡◌, length, true, ap}
 use Rattle.chess_bits.specs.ties.Goes.{goes}
 use Rattle.chess_bits.proofs.{Counted.none_counted, Listed.from_targets, Listed.each_member}

@@ -1,5 +1,6 @@
--- The loop's invariant: the moves counted, and those to the squares in `targets`, to each of which the piece goes, are
--- all its moves. The measure is the number of squares in `targets`.
+-- The loop's invariant: the number counted so far, and the number of legal moves to the squares in `targets`, add up to
+-- that of all its moves; and the piece goes to each square in `targets`. The measure is the number of squares in
+-- `targets`.
 use Rattle.std.proofs.Common.{◌≡◌, ◌+◌, length, true, flat_map}
 use Rattle.chess_moves.specs.{shared.MovesBySquares.moves_between, shared.MovesBySquares.moves_from, Sets.members}
 use Rattle.chess_bits.specs.ties.Goes.{goes}

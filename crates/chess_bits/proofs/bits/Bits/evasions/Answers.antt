@@ -1,4 +1,5 @@
--- If a square is between the king and a piece, the two are on one line (line_between of Pins), so the table has it.
+-- The result has each square between king and enemy piece, that piece's square, and the en passant target. If some
+-- square is between, the two are on one line (line_between of Pins), so the table has just the squares between them.
 use Rattle.std.proofs.Common.{◌≡◌, ◌==◌, ◌||◌, ◌<◌, inl, inr, subst, ◌∙◌}
 use Rattle.std.proofs.lemmas.Bool.{or_cases, or_left, or_right}
 use Rattle.chess_base.specs.Squares.{is_between, is_at}

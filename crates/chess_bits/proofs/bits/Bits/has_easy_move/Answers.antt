@@ -1,5 +1,5 @@
--- The legal moves of some pieces are among all legal moves, so if these pieces have one, there is one (some_of of
--- Counted).
+-- If a knight that is free has a legal move, or the ordinary pawns have one, there is one: the legal moves of some
+-- pieces are among all legal moves (some_of of Counted).
 use Rattle.std.proofs.Common.{nat_lt, length, sym, ap, ◌∙◌, rules}
 use Rattle.chess_moves.specs.{shared.MovesBySquares.moves_from, Sets.members}
 use Rattle.chess_bits.proofs.Counted.{any_of, some_of}

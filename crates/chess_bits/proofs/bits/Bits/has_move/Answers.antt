@@ -1,5 +1,6 @@
--- A legal move of a free knight or pawn, or of the king, is one; if none is found, all own pieces are looked at, and
--- theirs are all legal moves (from_men of Listed).
+-- The result is whether there is a legal move. If `has_easy_move` finds one, or the king has one (some_from of
+-- Counted), there is one. Otherwise all own pieces are asked, whose moves are all legal moves (from_men of Listed).
+-- What `count_king` requires: a king is on the square that `king` returns.
 use Rattle.std.proofs.Common.{◌≡◌, ◌<◌, ℕ, nat_lt, length, refl, sym, ap, subst, ◌∙◌, rules, eq-eqb}
 use Rattle.chess_base.specs.Men.{man_at, is_of}
 use Rattle.chess_moves.specs.{shared.MovesBySquares.moves_from, Sets.contains, Sets.members}

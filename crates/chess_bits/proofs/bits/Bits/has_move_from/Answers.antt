@@ -1,5 +1,5 @@
--- The moves to all targets are those from the square (from_targets of Listed), and there are some if there are to one
--- of the targets (any_of of Counted).
+-- The result is whether a legal move begins on the square: the legal moves to all its targets are those from it
+-- (from_targets of Listed), and there are some exactly if there are some to one of the targets (any_of of Counted).
 use Rattle.std.proofs.Common.{nat_lt, length, ap, ◌∙◌, rules}
 use Rattle.chess_moves.specs.{shared.MovesBySquares.moves_between, Sets.members}
 use Rattle.chess_bits.proofs.{Counted.any_of, Listed.from_targets}

@@ -1,5 +1,5 @@
--- A pseudo-legal move that passes the test `steps_plainly` is neither the king's nor en passant, so it has the property
--- StepsPlainly, for which `is_safe_plain` answers rightly.
+-- If the move passes the test `steps_plainly`: it is pseudo-legal and neither the king's nor en passant, so it has the
+-- property `StepsPlainly`, for which the answer of `is_safe_plain` is whether it is legal.
 use Rattle.std.proofs.Common.{not, ◌&&◌, sym, ◌∙◌}
 use Rattle.std.proofs.lemmas.Bool.{and_parts, not-true}
 use Rattle.chess_base.specs.{Men.is_man, Men.man_at, Squares.is_at, declared.man.Kind.TheVariants.King, declared.man.Kind.TheVariants.Pawn}

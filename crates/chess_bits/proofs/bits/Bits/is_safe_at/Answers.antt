@@ -1,5 +1,7 @@
--- After the move all pieces are as before on the squares that it leaves alone, and own pieces on those that it fills
--- (later_after of AfterSets); check is then an attack on the king's square (check_after of KingAfter).
+-- The result is whether the move is legal. The occupied squares and the enemy's pieces after the move, as they follow
+-- from `filled` and `changed`, are right (later_after of AfterSets), so `attacks_outside` answers whether the king's
+-- square is attacked then. That is whether there is check (check_after of KingAfter), and without check the move is
+-- legal (legal_is).
 use Rattle.std.proofs.Common.{not, sym, ap, ◌∙◌}
 use Rattle.chess_base.specs.{Attacks.is_attacked, Moves.men_after}
 use Rattle.chess_bits.specs.ties.Occupancy.{IsOccupied, IsLater}

@@ -1,4 +1,5 @@
--- The steps are those of the move, so the squares that they fill and change are the move's, as `is_safe_at` wants them.
+-- The result is whether the move is legal, as `is_safe_at` answers it: the squares that the steps fill and change are
+-- the move's, and `king` is where the king is after it (`king_after`).
 use Rattle.std.proofs.Common.{◌≡◌, ◌==◌, ◌||◌, ℕ, ◌<◌, refl, ap, ◌∙◌}
 use Rattle.chess_base.specs.{declared.steps.Steps.Steps, Squares.is_at}
 use Rattle.chess_moves.specs.Sets.{contains}

@@ -1,5 +1,6 @@
--- Such a move fills its end and changes its two squares (fills_end and changes_both of Quiet), whatever the piece
--- becomes, and the king stays (king_stays of KingAfter).
+-- The result is whether the move is legal, with whatever promotion, as `is_safe_at` answers it: such a move fills its
+-- end square and changes its two squares (fills_end and changes_both of Quiet), and the king stays where it is
+-- (king_stays of KingAfter), since no king arrives (no_king_arrives of Pins).
 use Rattle.std.proofs.Common.{◌≡◌, ◌==◌, ◌||◌, ℕ, ◌<◌, ap, ◌∙◌}
 use Rattle.chess_base.specs.MoveList.{move_of}
 use Rattle.chess_base.proofs.shared.MoveKinds.{moves_from_pattern}

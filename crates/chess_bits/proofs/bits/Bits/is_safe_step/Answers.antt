@@ -1,5 +1,6 @@
--- A step is legal where nothing attacks its end once the king is off the board (step_is of KingSteps); with the king
--- off it, the enemy's sets are the same and only its square is empty (Lifted).
+-- A step is legal exactly if no enemy attacks its end with the king taken off the board (step_is of KingSteps). On that
+-- board the enemy's sets are the same, and the occupied squares are the same but for the king's (lifted_kinds and
+-- lifted_occupied of Lifted), so `attacks` answers it.
 use Rattle.std.proofs.Common.{◌≡◌, ◌<◌, false, not, ◌&&◌, subst, ap, ◌∙◌}
 use Rattle.chess_base.specs.{declared.man.Kind.TheVariants.King, Attacks.is_attacked, Men.man_at, Men.is_of}
 use Rattle.chess_base.proofs.shared.Men.{no_other}

@@ -1,4 +1,5 @@
--- The way is safe where no square of it is attacked (none_of of CastlingBySets).
+-- That `any` finds no attacked square among the members of `way` is the same as that each of the 64 squares is outside
+-- `way` or not attacked (none_of of CastlingBySets).
 use Rattle.std.proofs.Common.{rules, ◌≡◌, ℕ, Bool, not, ap, ◌∙◌}
 use Rattle.chess_base.specs.{Attacks.is_attacked, Men.other}
 use Rattle.chess_bits.proofs.CastlingBySets.{none_of}

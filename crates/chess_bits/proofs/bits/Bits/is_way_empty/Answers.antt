@@ -1,4 +1,5 @@
--- The pieces met are those on squares that king or rook crosses (way_is_empty of CastlingBySets).
+-- `met` are the occupied squares that king or rook crosses or ends on, but for those where the two start; the way is
+-- empty exactly if there is none (way_is_empty of CastlingBySets).
 use Rattle.std.proofs.Common.{refl, ◌∙◌}
 use Rattle.chess_moves.specs.Sets.{contains}
 use Rattle.chess_bits.proofs.CastlingBySets.{way_is_empty}

@@ -1,4 +1,5 @@
--- In a sound position a colour has one king, so the set of its kings has a square (some_king) and no other (alone).
+-- In a sound position a colour has exactly one king. So the set of its kings isn't empty, as `first` requires
+-- (some_king of OneKing), and no square but its first has a king of this colour (alone).
 use Rattle.chess_base.proofs.shared.Kings.{one_king_of}
 use Rattle.std.proofs.Common.{sym, ◌∙◌, ap}
 use Rattle.chess_base.specs.declared.man.Kind.TheVariants.{King}

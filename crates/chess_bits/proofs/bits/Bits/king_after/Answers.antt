@@ -1,4 +1,5 @@
--- A king that moves is where the mover lands (king_lands); when another piece moves it stays (king_stays).
+-- After the move the king of the side on move is on the square returned: if the mover arrives as a king, where it lands
+-- (king_lands of KingAfter), otherwise where the king was (king_stays).
 use Rattle.std.proofs.Common.{◌≡◌, ◌<◌, true, false, sym, ap, ◌∙◌, subst}
 use Rattle.chess_base.specs.{declared.man.Kind.TheVariants.King, declared.steps.Steps.Steps, Men.is_man}
 use Rattle.chess_bits.proofs.KingAfter.{king_stays, king_lands}

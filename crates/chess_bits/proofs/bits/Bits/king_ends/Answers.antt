@@ -1,4 +1,5 @@
--- A king's legal move is a step or a castling (steps_or_castles of KingListed).
+-- The result has just the ends of the king's legal moves: each such move is a legal castling or a legal step
+-- (steps_or_castles of KingListed), and the result joins the ends of both.
 use Rattle.std.proofs.Common.{◌≡◌, ◌&&◌, ◌||◌, inl, inr, None, ap, rules, ◌∙◌, ◌<◌, subst, sym, true}
 use Rattle.std.proofs.lemmas.Bool.{cases_Bool}
 use Rattle.chess_base.specs.{MoveList.move_of, Moves.is_legal, Moves.man_moves}

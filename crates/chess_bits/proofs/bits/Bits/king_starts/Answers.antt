@@ -1,4 +1,5 @@
--- The side on move has one king, so no other square can be a start (king_start of ByKind).
+-- The result has just the start of the king's legal move to the square. The side on move has one king, so no other
+-- square can be a start (king_start of ByKind); and a king is on this one, as `king_goes_legally` requires.
 use Rattle.std.proofs.Common.{ap, refl, ◌&&◌, ◌==◌, ◌∙◌, eq-eqb}
 use Rattle.chess_bits.proofs.ByKind.{king_start}
 use Rattle.chess_bits.proofs.bits.Bits.king_starts.Goals as goal

@@ -1,5 +1,6 @@
--- With king and right there, the move is the castling with these squares (castle_told of CastlingAtHome), and no other
--- end square names it (castles_onto_end); a piece that is no king never castles (no_king_castles).
+-- The result has just the square onto which the king castles legally to this side. With a king on the square, its move
+-- to the end that names this castling is this castling (castle_told of CastlingAtHome), as `castles_legally` requires,
+-- and no other end names it (castles_onto_end). Another piece never castles (no_king_castles of TargetsOf).
 use Rattle.std.proofs.Common.{rules, ◌≡◌, ◌==◌, ◌&&◌, true, false, None, Some, sym, ap, ◌∙◌}
 use Rattle.chess_base.specs.{declared.castling.Castle.Castle, declared.man.Kind.TheVariants.King, Castling.castle_from, laws.Castles.named_square, Men.man_at, Men.is_man, MoveList.move_of, Sound.IsSound}
 use Rattle.chess_bits.proofs.{CastlingAtHome.castle_told, CastlingAtHome.castles_onto_end, TargetsOf.no_king_castles}

@@ -1,5 +1,5 @@
--- A pawn that goes to a square which is not the en passant target, nor on its last rank, changes its two squares alone
--- (pawns_plain of PawnStarts).
+-- What `safe_starts` requires, where `to` is neither the en passant target nor on the last rank: each move of a pawn of
+-- `pawns_to` there is pseudo-legal and changes its two squares alone (pawns_plain of PawnStarts).
 use Rattle.std.proofs.Common.{◌≡◌, ◌<◌, ◌==◌, false, sym, subst, ◌∙◌}
 use Rattle.chess_base.specs.{Men.first_rank, Men.other, Squares.is_at, Squares.rank}
 use Rattle.chess_bits.proofs.PawnStarts.{pawns_plain}

@@ -1,5 +1,6 @@
--- A pawn that promotes has the four promotions there and no other move, and all or none are legal (promotions_between
--- of Listed); elsewhere a piece has one move at most (one_between).
+-- The promotions of the result give exactly the legal moves between the squares. Where a pawn would promote, these are
+-- the moves with all four promotions or none (promotions_between of Listed), as `promotes_legally` says; elsewhere the
+-- move without a promotion or none (one_between), as `is_safe_after` says.
 use Rattle.std.proofs.Common.{◌≡◌, true, false, sym, ◌∙◌, rules}
 use Rattle.chess_moves.specs.Promoting.{would_promote}
 use Rattle.chess_bits.proofs.Listed.{promotions_between, one_between, unpromoted}

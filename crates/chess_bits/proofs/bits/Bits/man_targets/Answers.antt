@@ -1,5 +1,6 @@
--- An officer goes where it attacks what is no own piece (officer_is of TargetsOf); so does a king, or it castles
--- (king_goes of KingSteps).
+-- The result has just the squares of `man_goes`. An officer goes where it attacks what is no own piece (officer_is of
+-- TargetsOf); so does a king, or it castles legally (king_goes of KingSteps). The start is not empty, since an own
+-- piece is there by the contract (no_own).
 use Rattle.std.proofs.Common.{rules, ◌≡◌, ◌||◌, true, ap, sym, ◌∙◌, Some, None}
 use Rattle.chess_base.specs.{declared.man.Kind.TheVariants.King, Men.man_at, Men.same_kind, Sound.IsSound}
 use Rattle.chess_moves.specs.Sets.{contains}

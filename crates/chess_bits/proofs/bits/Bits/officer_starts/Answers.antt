@@ -1,5 +1,6 @@
--- Nothing goes to an own piece's square (own_on_end). To another square a piece can go if its kind would attack it from
--- there (starts_plain), and the starts are where such a move is legal (officer_starts_are). All three are of ByKind.
+-- The result has just the legal starts (`HasLegalStarts`). Nothing goes to an own piece's square (own_on_end of
+-- ByKind). To another square a piece can go if its kind would attack it from there, by a move that `safe_starts` may be
+-- asked for (starts_plain); the legal ones among these are all (officer_starts_are).
 use Rattle.std.proofs.Common.{◌≡◌, ◌<◌, true, false, sym, ap, subst, ◌∙◌}
 use Rattle.chess_base.specs.Men.{man_at, is_of}
 use Rattle.chess_moves.specs.Sets.{contains}

@@ -1,4 +1,5 @@
--- A pawn goes straight ahead, or captures (captures_are of PawnStarts).
+-- The result has just the pawns that advance or capture to the square: on a pawn's square `advance_starts` is whether
+-- it advances there by its contract, and `capture_starts` whether it captures there (captures_are of PawnStarts).
 use Rattle.std.proofs.Common.{◌≡◌, ◌&&◌, ◌||◌, None, refl, ap, ◌∙◌}
 use Rattle.chess_base.specs.{Men.is_man, Men.man_at, declared.man.Kind.TheVariants.Pawn, MoveList.move_of, Moves.pawn_advances, Moves.pawn_captures}
 use Rattle.chess_moves.specs.Sets.{contains}

@@ -1,5 +1,6 @@
--- If the set of the king's attackers is empty, it is not in check (attacked_is of Attackers). Otherwise each legal move
--- of another piece ends on an evasion against the first attacker (check_met of Pins).
+-- If the set of the king's attackers is empty, there is no check, as `pins_without_check` requires (attacked_is of
+-- Attackers, check_is of AfterSets). Otherwise no piece is free, and each legal move of a piece other than the king
+-- ends on an evasion against the first attacker (check_met of Pins), as the clause `evasions` says.
 use Rattle.std.proofs.Common.{◌≡◌, ◌<◌, ◌&&◌, ℕ, not, sym, ap, ◌∙◌}
 use Rattle.chess_base.specs.{Attacks.attacks, declared.man.Kind.TheVariants.King}
 use Rattle.chess_base.specs.Men.{man_at, is_of, is_man, other}

@@ -1,6 +1,7 @@
--- At first all own pieces but the king are free. For each possible pinner (`aims_from`) the piece that shields the king
--- from it is taken out of them, if there is one (`add_pin`). After the last pinner no piece that is left opens a line
--- to the king when it leaves (`KeepsClosed`), so each is free (freed of Freely).
+-- At first all own pieces but the king are free, so the invariant says nothing of other pieces' moves. For each
+-- possible pinner (`aims_from`), `add_pin` takes the piece that shields the king from it, if any, out of the free ones,
+-- which keeps the invariant. After the last pinner no piece that is left opens a line to the king when it leaves
+-- (`KeepsClosed`), so each is free (freed of Freely), as the clause `free` says.
 use Rattle.chess_base.proofs.shared.Kings.{one_king_of}
 use Rattle.std.proofs.Common.{◌≡◌, ◌<◌, ◌==◌, ◌&&◌, ◌||◌, ℕ, inl, inr, not, false, true, sym, ap, refl, subst, ◌∙◌}
 use Rattle.std.proofs.lemmas.Bool.{and_parts, and_from, or_right, cases_Bool, both_ways, eqb-true, not-true}

@@ -1,6 +1,6 @@
--- The loop's invariant: the free pieces are own ones and not the king, and when one of them leaves, the way from each
--- pinner looked at so far stays closed (`KeepsClosed`); the legal moves of the others end on the evasions. The measure
--- is the number of possible pinners left.
+-- The loop's invariant: each free piece is an own one, not the king, and if it leaves, the way to the king opens from
+-- none of the possible pinners looked at so far (`KeepsClosed`); each legal move of a piece that is neither free nor
+-- the king ends on an evasion; and `rest` has possible pinners only. The measure is the number of squares in `rest`.
 use Rattle.std.proofs.Common.{◌≡◌, ◌<◌, ℕ, not, ◌&&◌, ◌==◌, length, true, false}
 use Rattle.chess_base.specs.Men.{man_at, is_of}
 use Rattle.chess_bits.specs.ties.Pins.{aims_from, KeepsClosed, AreEvasions}

@@ -1,5 +1,6 @@
--- A promotion to each kind that fits is pseudo-legal (pattern_from of Patterns), and neither the king's nor en passant,
--- since the target is not on the last rank (no_target_there of Pins).
+-- The one test decides for each of the four kinds: each of these promotions is pseudo-legal (pattern_from of Patterns)
+-- and neither the king's nor en passant, since the target is not on the last rank (no_target_there of Pins). So it has
+-- the property `StepsPlainly`, and `is_safe_plain` answers for whatever promotion.
 use Rattle.chess_base.proofs.shared.Men.{is_man-kind}
 use Rattle.std.proofs.Common.{◌≡◌, ◌==◌, true, Some, sym, subst, refl}
 use Rattle.std.proofs.lemmas.Bool.{and_parts, and_right, eqb-true}

@@ -1,4 +1,6 @@
--- The first square that is left is chosen if the move from there is legal; nothing changes for the others.
+-- The result has just the squares of `men` from which the move is legal. In each turn the first square leaves `rest`,
+-- and it is chosen exactly if its move is legal, while nothing changes for the others (chosen_next): so the invariant
+-- stays. At the end `rest` is empty.
 use mathlib.Core.Bool.{and-true}
 use Rattle.std.proofs.Common.{◌≡◌, ℕ, ◌<◌, ◌==◌, ◌&&◌, ◌||◌, not, Bool, inl, inr, true, false, None, refl, sym, ap, ◌∙◌}
 use Rattle.std.proofs.lemmas.Bool.{cases_Bool, eqb-true, or_right}

@@ -1,5 +1,5 @@
--- The loop's invariant: the squares in `rest` are of the set; of its other squares, `starts` has those from which the
--- move is legal. The measure is the number of squares in `rest`.
+-- The loop's invariant: the squares in `rest` are of the set `men`; and `starts` has just those other squares of `men`
+-- from which the move is legal. The measure is the number of squares in `rest`.
 use Rattle.std.proofs.Common.{◌≡◌, ◌<◌, ℕ, ◌&&◌, not, true, None, length}
 use Rattle.chess_base.specs.{MoveList.move_of, Moves.is_legal}
 use Rattle.chess_moves.specs.Sets.{contains, members}

@@ -1,5 +1,6 @@
--- With no piece between them the way is clear (none_hides of Pins), with one this is the shield (one_hides), and with
--- more no piece taken off clears the way (many_hide).
+-- By the number of pieces between king and pinner: with none the way is clear already (none_hides of Pins), so no piece
+-- opens it by leaving; with one, this is the shield (one_hides); with more, no piece taken off clears the way
+-- (many_hide).
 use Rattle.std.proofs.Common.{◌≡◌, ◌<◌, ◌==◌, ◌&&◌, ℕ, not, sym, ap, ◌∙◌}
 use Rattle.std.proofs.lemmas.Bool.{both_ways}
 use Rattle.chess_base.proofs.shared.Squares.{some_square-none}

@@ -1,5 +1,5 @@
--- Each kind's own search gives the start squares of that kind; what is neither officer nor king is a pawn (pawn_left of
--- ByKind).
+-- Each kind's own search gives the legal starts of that kind. The kind that is neither an officer's nor the king's is
+-- the pawn's (pawn_left of ByKind).
 use Rattle.std.proofs.Common.{sym, subst, ◌∙◌}
 use Rattle.chess_base.specs.declared.man.Kind.TheVariants.{King}
 use Rattle.chess_base.proofs.shared.Men.{same_kind-true}

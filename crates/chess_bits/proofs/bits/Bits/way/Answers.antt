@@ -1,4 +1,5 @@
--- Two squares of one rank are on one line, so the table has what is between them; the ends are added.
+-- The result has just the squares from a to b, both included: two squares of one rank are on one line, so the table has
+-- what is between them, and the ends are added.
 use Rattle.std.proofs.Common.{refl, ◌∙◌, eq-eqb}
 use Rattle.chess_base.specs.{Squares.rank, declared.line.Line.TheVariants.Rank}
 use Rattle.chess_bits.proofs.bits.Bits.way.Goals as goal

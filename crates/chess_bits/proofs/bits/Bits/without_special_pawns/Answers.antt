@@ -1,5 +1,5 @@
--- No free piece that is left is a pawn that may promote or take en passant, so each square to which it goes gives it
--- one legal move (`GoesFreely`).
+-- Two clauses. The result has the free pieces but for own pawns that may promote or take en passant (`squares`); so
+-- each of them goes freely (`GoesFreely`): it is free and no such pawn (`freely`).
 use Rattle.std.proofs.Common.{◌≡◌, ℕ, ◌<◌, ◌&&◌, not, refl, sym, ◌∙◌}
 use Rattle.std.proofs.lemmas.Bool.{and_parts, not-true}
 use Rattle.chess_base.specs.{Men.man_at, Men.is_man, declared.man.Kind.TheVariants.Pawn}

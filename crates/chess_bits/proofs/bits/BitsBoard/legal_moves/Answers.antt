@@ -1,4 +1,5 @@
--- Each move in the list is legal, since `moves` keeps of all moves only the legal ones.
+-- The clause `legal`: each move in the list is legal, since the list is `moves`, a filter that keeps of all moves the
+-- legal ones.
 use Rattle.std.proofs.lemmas.List.Elements.{filter_passes}
 use Rattle.chess_base.specs.{Moves.is_legal, MoveList.moves, MoveList.all_moves}
 use Rattle.chess_bits.proofs.bits.BitsBoard.legal_moves.Goals as goal

@@ -1,4 +1,5 @@
--- A legal move of a sound position leaves a sound one (IsSound-after), and the sets change as the pieces do.
+-- The position after the move is sound (IsSound-after of chess_base), as the clause `sound` says, and the sets are
+-- those of its pieces (by the contract of `make_move`): so the board keeps its invariant.
 use Rattle.std.proofs.Common.{◌≡◌, true}
 use Rattle.chess_base.specs.Moves.{is_legal}
 use Rattle.chess_base.proofs.shared.LegalMoves.{IsSound-after}

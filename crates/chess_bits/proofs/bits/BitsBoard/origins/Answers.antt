@@ -1,5 +1,6 @@
--- A pawn advances or captures (pawn_origins of OriginsOf); an officer goes where it attacks, and is attacked back from
--- there (officer_origins). All pieces of a kind are always enough (all_men of chess_moves).
+-- The result has the start of each legal move of the kind to the square (`HasOrigins`). A king is among all kings
+-- (all_men of chess_moves); a pawn advances or captures (pawn_origins of OriginsOf); an officer goes where it attacks,
+-- and its kind attacks back from there (officer_origins).
 use Rattle.std.proofs.Common.{sym, ap, ◌∙◌}
 use Rattle.chess_moves.specs.Sets.{contains}
 use Rattle.chess_moves.proofs.shared.Origins.{all_men}

@@ -1,5 +1,6 @@
--- The position before a move that was made is that sound position (Made of chess_moves); the sets change as the pieces
--- do.
+-- The move was made in some sound position p. `before` gives back just p, as the clause `back` says, so what it gives
+-- is sound (both lemmas are in Made of chess_moves); and the sets are those of its pieces (by the contract of
+-- `move_back`): so the board keeps its invariant.
 use Rattle.chess_moves.proofs.shared.Made.{IsMade-sound, WasMade-back}
 use Rattle.chess_bits.proofs.bits.BitsBoard.take_back.Goals as goal
 

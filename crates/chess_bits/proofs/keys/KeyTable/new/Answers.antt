@@ -1,4 +1,5 @@
--- The entry that is written is the key of its number, and those below stay.
+-- A turn keeps the invariant: the entry that is written, at the index `number`, is the Zobrist key with that number,
+-- and the entries before it stay.
 use Rattle.std.proofs.{Common.arith, Common.◌∙◌, Common.length-set, lemmas.List.Edits.fill_by_more}
 use Rattle.chess_moves.specs.PositionHash.{key}
 use Rattle.chess_bits.proofs.keys.KeyTable.new.Goals as goal

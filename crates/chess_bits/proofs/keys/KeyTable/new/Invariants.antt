@@ -1,4 +1,4 @@
--- The loop's invariant: the keys before `number` are those of their numbers.
+-- The loop's invariant: at each index before `number` is the Zobrist key with that number.
 use Rattle.std.proofs.Common.{◌≡◌, ℕ, ◌<◌, length, get_or}
 use Rattle.chess_moves.specs.PositionHash.{key}
 use Rattle.chess_bits.proofs.keys.KeyTable.new.Given as goal

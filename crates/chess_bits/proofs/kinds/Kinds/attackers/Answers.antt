@@ -1,5 +1,6 @@
--- A piece attacks a square just where one of its kind on that square would attack it back, a pawn where one of the
--- other colour would (attackers_are of Attackers).
+-- The result has square k, where the sets are right, exactly if a piece of this colour on k attacks `square`. Seen from
+-- `square`, that is a piece of a kind that would attack k from there; for a pawn, a pawn of the other colour would
+-- (attackers_are of Attackers).
 use Rattle.chess_base.specs.{Men.man_at, Attacks.attacks}
 use Rattle.chess_base.specs.declared.man.Kind.TheVariants.{King, Queen, Rook, Bishop, Knight, Pawn}
 use Rattle.chess_bits.proofs.Attackers.{attackers_are, open_is_clear}

@@ -1,4 +1,5 @@
--- A square is attacked exactly if its set of attackers is not empty (attacked_is of Attackers).
+-- The square is attacked exactly if the set of its attackers, which is right for this board, is not empty (attacked_is
+-- of Attackers).
 use Rattle.chess_bits.proofs.Attackers.{attacked_is}
 use Rattle.chess_bits.proofs.kinds.Kinds.attacks.Goals as goal
 

@@ -1,5 +1,7 @@
--- On a square that doesn't change, the sets are right for the piece there after the move; on one that does, this colour
--- has no piece then (left_out of KindSets).
+-- The result is whether this colour attacks the square after the move. The sets are those before it: right on a square
+-- that doesn't change, while on one that does, this colour has no piece afterwards. So the attackers that the sets
+-- give, without the changed squares, are those after the move (left_out of KindSets), and one of them is enough
+-- (attacked_is of Attackers).
 use Rattle.chess_bits.proofs.{Attackers.attacked_is, KindSets.left_out}
 use Rattle.chess_bits.proofs.kinds.Kinds.attacks_outside.Goals as goal
 

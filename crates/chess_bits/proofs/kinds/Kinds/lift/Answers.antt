@@ -1,4 +1,5 @@
--- The square leaves the kind's set and that of all (lift_kinds of KindSets, all_lift of BoardSets).
+-- The two clauses: with the piece taken from its square, the set of its kind loses that square and those of the other
+-- kinds stay right (lift_kinds of KindSets), and the set of all loses it (all_lift of BoardSets).
 use Rattle.std.proofs.Common.{rules, refl, ◌∙◌}
 use Rattle.chess_bits.proofs.{BoardSets.all_lift, KindSets.lift_kinds}
 use Rattle.chess_bits.proofs.kinds.Kinds.lift.Goals as goal

@@ -1,4 +1,5 @@
--- The square comes into the kind's set and that of all (put_kinds of KindSets, all_put of BoardSets).
+-- The two clauses: with the piece put on an empty square, the set of its kind gains that square and those of the other
+-- kinds stay right (put_kinds of KindSets), and the set of all gains it (all_put of BoardSets).
 use Rattle.std.proofs.Common.{rules, refl, ◌∙◌}
 use Rattle.chess_bits.proofs.{BoardSets.all_put, KindSets.put_kinds}
 use Rattle.chess_bits.proofs.kinds.Kinds.put.Goals as goal

@@ -1,5 +1,5 @@
--- The square is taken out of the kind's set and that of all, and the other one put in (shift_kinds of KindSets,
--- all_lift and all_put of BoardSets).
+-- The two clauses: after the move to an empty square the sets of the six kinds are right (shift_kinds of KindSets), and
+-- so is the set of all, which loses the start square (all_lift of BoardSets) and gains the end square (all_put).
 use Rattle.std.proofs.Common.{◌∙◌, None, length-set, rules, refl, slice_set}
 use Rattle.chess_bits.proofs.{BoardSets.all_lift, BoardSets.all_put, KindSets.shift_kinds}
 use Rattle.chess_bits.proofs.kinds.Kinds.shift.Goals as goal

@@ -1,4 +1,6 @@
--- The piece's square leaves the sets of its colour, and no set of the other colour had it (BoardSets).
+-- With the piece taken off, the sets and the hash are those of the new list of pieces, by cases of its colour: its sets
+-- lose the square, those of the other colour stay (kinds_kept and all_kept of BoardSets), and the hash changes by one
+-- key (hash_lifted of chess_moves).
 use Rattle.std.proofs.Common.{◌∙◌, None, refl}
 use Rattle.chess_base.specs.declared.man.Colour.TheVariants.{White, Black}
 use Rattle.chess_bits.proofs.BoardSets.{kinds_kept, all_kept, none_of, theirs_at, as_own}

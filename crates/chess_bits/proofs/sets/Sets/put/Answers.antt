@@ -1,4 +1,6 @@
--- The piece's square comes into the sets of its colour, and no set of the other colour gets or loses it (BoardSets).
+-- With the piece put on an empty square, the sets and the hash are those of the new list of pieces, by cases of its
+-- colour: its sets gain the square, those of the other colour stay (kinds_kept and all_kept of BoardSets), and the hash
+-- changes by one key (hash_put of chess_moves).
 use Rattle.std.proofs.Common.{slice_set, Some, sym, subst}
 use Rattle.chess_base.specs.declared.man.Colour.TheVariants.{White, Black}
 use Rattle.chess_bits.specs.ties.KindSets.{IsKinds}

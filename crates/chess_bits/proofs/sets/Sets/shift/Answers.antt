@@ -1,5 +1,6 @@
--- The piece's square leaves the sets of its colour and the other comes into them; no set of the other colour gets or
--- loses one (BoardSets).
+-- After the move to an empty square, the sets and the hash are those of the new list of pieces, by cases of its colour:
+-- its sets lose the start and gain the end, those of the other colour stay (kinds_kept and all_kept of BoardSets), and
+-- the hash changes by two keys (hash_lifted and hash_put of chess_moves).
 use Rattle.std.proofs.Common.{◌≡◌, slice_set, length, length-set, Some, None, refl, sym, ◌∙◌, subst}
 use Rattle.chess_base.specs.{declared.man.Colour.TheVariants.White, declared.man.Colour.TheVariants.Black, Men.man_at}
 use Rattle.chess_bits.specs.ties.KindSets.{IsKinds}

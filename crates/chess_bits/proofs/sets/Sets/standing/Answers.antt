@@ -1,4 +1,6 @@
--- The pieces are placed square by square, as the set of those that are left gives them (one_placed of Standing).
+-- The result is right for the list `men`: its sets and its hash are those of these pieces. At first none is placed, and
+-- the sets are empty (none_placed of Standing); each turn places the piece of the first square in `rest`, so the
+-- invariant stays (one_placed); when `rest` is empty, all are placed (all_placed).
 use Rattle.std.proofs.Common.{◌<◌, subst, slice_set}
 use Rattle.chess_base.specs.Men.{man_at}
 use Rattle.chess_bits.specs.ties.BoardSets.{IsSets}

@@ -1,5 +1,5 @@
--- After `clear` the square is empty, as `fill` requires (cleared), and of two writes to it the second one holds
--- (set_twice).
+-- The sets are those of the list with the new content written. After `clear` the square is empty, as `fill` requires
+-- (cleared of BoardSets), and of two writes to it the second one holds (set_twice).
 use Rattle.std.proofs.Common.{◌≡◌, ◌<◌, length, slice_set, None, ◌∙◌, subst, length-set}
 use Rattle.chess_bits.specs.ties.BoardSets.{IsSets}
 use Rattle.chess_bits.proofs.BoardSets.{set_twice, cleared}

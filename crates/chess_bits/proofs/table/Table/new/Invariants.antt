@@ -1,4 +1,5 @@
--- The loop's invariant: the entries before `number` are the sets of the shape from their squares.
+-- The loop's invariant: for each square before `number`, the entry is the set of the squares that belong to the shape
+-- from there.
 use Rattle.std.proofs.Common.{◌≡◌, ℕ, ◌<◌, get_or}
 use Rattle.chess_moves.specs.Sets.{contains}
 use Rattle.chess_bits.specs.ties.Shapes.{in_shape}

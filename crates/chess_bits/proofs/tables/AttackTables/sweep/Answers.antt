@@ -1,4 +1,5 @@
--- A ray is open up to and with its first blocker; where none is on it, no ray goes on from the board's last square
+-- The result has just the squares of the ray with no occupied square between (`is_open`): the ray without the one that
+-- continues from its first blocker or, without a blocker, from the board's last square, where no ray continues
 -- (swept_to of Blockers).
 use Rattle.std.proofs.Common.{◌≡◌, ℕ, ◌<◌, ◌&&◌, ap, ◌∙◌}
 use Rattle.chess_moves.specs.Sets.{contains}
