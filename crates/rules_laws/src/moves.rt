@@ -29,8 +29,9 @@ pub fn lines_end_at_the_first_piece()
 {}
 
 /// A law: the contract says it, and the function does nothing. In a sound position, castling takes the king to the
-/// g-file or the c-file of its first rank and the rook to the f-file or the d-file, in normal chess and in Chess960;
-/// all else stays (FIDE Laws of Chess 2023, article 3.8.2 and Guidelines II). The squares are named, as `e1` and `g1`.
+/// g-file or the c-file of its first rank and the rook to the f-file or the d-file, in normal chess and in Chess960; no
+/// other piece moves (FIDE Laws of Chess 2023, article 3.8.2 and Guidelines II). The squares are named, as `e1` and
+/// `g1`.
 ///
 /// It refuses definitions with one of these mistakes: a rook that stays, or that ends on the c-file, and a king that
 /// ends on the b-file.
