@@ -124,8 +124,8 @@ fn repetitions(played_moves: &[PlayedMove]) -> u32
 }
 
 // The verdict on a game whose present position has a legal move, so that it is neither mate nor stalemate: the first of
-// the others that holds. The 75-move rule does from 150 half-moves on. The board is at this position, and
-// `played_moves` led to it.
+// the others that holds (the 75-move rule from 150 half-moves on). The board is at this position, and `played_moves`
+// led to it.
 #[tactic(auto, unfolding(crate::specs::Ends::verdict))]
 #[inline(always)]
 fn verdict_of_moving<B: Board>(board: &B, played_moves: &[PlayedMove]) -> Option<Verdict>

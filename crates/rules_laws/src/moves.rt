@@ -1,5 +1,5 @@
-//! Laws of how pieces move. A caller learns one by calling its function, which does nothing. What a law refuses are
-//! wrong definitions: with one of them it can't be proved.
+//! Laws of how pieces move. A caller learns one by calling its function, which does nothing. That a law refuses a
+//! definition means: with this definition the law can't be proved.
 
 ghost use Rattle.rules_laws.specs.Castled.{FischerandomCastlingEnds, FischerandomRightsAreAtHome, NormalCastlingEnds, NormalCastlingIsLegal};
 ghost use Rattle.rules_laws.specs.EnPassant.{EnPassantFollowsDoubleAdvance};
@@ -53,8 +53,8 @@ pub fn castling_needs_named_squares()
 {}
 
 /// A law: the contract says it, and the function does nothing. Of two legal moves from a sound position, the second
-/// captures en passant only if the first was the double advance, over its end square, of the pawn that it captures
-/// (FIDE Laws of Chess 2023, article 3.7.3.1).
+/// captures en passant only if the first was a pawn's double advance over the square to which the second goes; and it
+/// captures that pawn (FIDE Laws of Chess 2023, article 3.7.3.1).
 ///
 /// It refuses definitions with one of these mistakes: an en passant target that stays for a second move, a target after
 /// a single advance, and the capture of another pawn.
