@@ -1,6 +1,7 @@
--- How the first byte that passes a test is found block by block: a block's mask has a bit for each of its bytes, which
--- is 1 where the byte passes. If no bit is set, the block is passed over (passed); otherwise the lowest set bit is that
--- of the first such byte (found).
+-- How the first byte that passes a test is found block by block. A block's mask has a bit for each of its bytes, which
+-- is 1 where the byte passes (mask_of; for the test `is_any`, one of three bytes, by tops). If no bit is set, the block
+-- is passed over (passed); otherwise the lowest set bit is that of the first such byte (found). The number of bytes
+-- before it is at most the length (few_before); and three equal bytes are one (before_one).
 use Rattle.std.proofs.Common.{◌≡◌, ◌≢◌, ℕ, ◌+◌, ◌*◌, ◌≤◌, ◌%◌, ◌^◌, Bool, true, false, not, cond, eqb, ◌||◌, List, [], ◌∷◌, length, map, drop, bit_or, refl, sym, ap, ◌∙◌, arith, ◌==◌}
 use Rattle.std.specs.List.{position_or_len}
 use Rattle.std.proofs.{Math.Path.fun_ext, lemmas.List.length-map, lemmas.List.Folds.prefix_len-append, lemmas.List.Sums.prefix_len-le-length}

@@ -1,5 +1,5 @@
--- A write of `Counted`: it passes on what the device answers, `Ok n` or a fault, and counts it. So its counts change as
--- `WriteStep` asks of a write (counted_write).
+-- A write of `Counted` passes on what the device answers, `Ok n` or a fault, and counts it: by these two cases its
+-- counts change as `WriteStep` asks of a write (counted_write).
 use Rattle.std.proofs.Common.{◌≡◌, ℕ, ◌<◌, ◌≤◌, ◌==◌, ◌&&◌, nat_lt, Bool, true, false, if◌then◌else◌, List, [], length, take, Option, None, Some, Result, Ok, Err, refl, sym, ap, subst, ◌∙◌, arith, append-nil, length-take-le}
 use Rattle.std.proofs.{lemmas.Bool.and_parts, lemmas.Bool.Decides.nat_tests}
 use Rattle.std.specs.{Io.WritesAtMost, Io.KnownBytes.Keeps, Io.KnownBytes.Appends, Io.KnownBytes.WriteAppends}

@@ -1,5 +1,6 @@
--- The seven sets of `PackedMen` give back the pieces that they were made of (men_back), and two positions differ on a
--- square exactly where one of the sets does (differ_at): so comparing sets compares pieces (same_where_none).
+-- On each square, by cases of its content: the seven sets of `PackedMen` give back the pieces that they were made of
+-- (men_back), and so are the sets of these (packed_back); and two positions differ there exactly if one of the sets
+-- does (differ_at). So pieces that differ on no square are the same (same_where_none).
 use Rattle.std.proofs.Common.{◌≡◌, ℕ, zero, suc, ◌<◌, inl, inr, Bool, true, false, not, ◌&&◌, ◌||◌, if◌then◌else◌, refl, sym, ◌∙◌, ap, subst, arith, Option, Some, None, length, true≢false, ext_get_or}
 use Rattle.std.proofs.lemmas.Bool.{or_from, or_parts, cases_Bool}
 use Rattle.chess_base.specs.{declared.man.Colour.Colour, declared.man.Colour.TheVariants.White, declared.man.Colour.TheVariants.Black, declared.man.Kind.Kind, declared.man.Man.Man, Squares.some_square, shared.Below.some_below, shared.Below.each_below, shared.Below.from_below}

@@ -1,5 +1,6 @@
--- How often a position occurred in a game, counted over its start and the positions that its played moves reached
--- (`seen`), is the definition's `repetition_count`: by induction over the moves.
+-- How many positions are the same as a given one: counted over the start and the positions that the played moves
+-- reached (`seen`), as many as over the positions of the line (seen-line, by induction over the moves). So for the
+-- game's last position `seen` is the definition's `repetition_count` (counted).
 use Rattle.std.proofs.Common.{◌≡◌, ◌∙◌, ℕ, ◌+◌, Bool, List, [], ◌∷◌, count_by, cond, sym, ap, subst}
 use Rattle.std.proofs.lemmas.List.Sums.{sum_by-cons}
 use Rattle.chess_base.specs.{declared.setup.Setup.Setup, Moves.after}

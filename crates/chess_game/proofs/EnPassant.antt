@@ -1,6 +1,6 @@
--- A pawn's legal moves to the en passant target are just the legal captures en passant: no pawn advances there, and a
--- capture there is en passant (captures_there). So whether one is legal is seen from the squares of pawns that may
--- legally go there (some_start).
+-- A pawn's legal moves to the en passant target are just the legal captures en passant (captures_there): no pawn
+-- advances to it, since one step back from it is the pawn that crossed it, and a double advance ends on another rank.
+-- So whether one is legal is seen from the squares of pawns that may legally go there (some_start).
 use Rattle.std.proofs.Common.{◌≡◌, ◌<◌, ℕ, inl, inr, Bool, true, not, ◌==◌, ◌&&◌, Option, Some, None, refl, sym, ap, ◌∙◌, arith}
 use Rattle.std.proofs.lemmas.Bool.Decides.{nat_tests}
 use Rattle.std.proofs.lemmas.Bool.{eqb-true, and_from, and_parts, both_ways}

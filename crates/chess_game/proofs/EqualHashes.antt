@@ -1,5 +1,6 @@
--- Positions that are the same (`is_same_position`) have equal pieces, side and rights, so their hashes by one
--- definition are equal (equal_hashes), and positions with different hashes are not the same (hashes_differ).
+-- Positions that are the same (`is_same_position`) have equal pieces, side and rights, by the parts of this test. So
+-- their hashes by one definition are equal (equal_hashes), positions with different hashes are not the same
+-- (hashes_differ), and a position that is the same as one of them is the same as the other (same_alike).
 use Rattle.std.proofs.Common.{◌≡◌, ℕ, ◌<◌, true, false, not, ◌&&◌, ◌==◌, length, Option, None, Some, refl, sym, ◌∙◌, ap, arith, true≢false, ext_get_or}
 use Rattle.std.proofs.lemmas.Bool.{and_parts, eqb-true, eq-eqb, false_from_ne_true}
 use Rattle.chess_base.specs.{declared.man.ColourRights.ColourRights, declared.man.Man.Man, declared.man.Rights.Rights, declared.setup.Setup.Setup, Sound.IsSound}

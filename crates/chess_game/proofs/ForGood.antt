@@ -1,6 +1,7 @@
 -- No position before a capture or a pawn move is the same as one after it. The reserve of the pieces (`reserve`: each
 -- counts 1, a pawn also its ranks to go) never grows, and these moves lower it; both are laws of chess_base, given here
--- as arguments. Same positions have equal reserves.
+-- as arguments. Same positions have equal reserves (other_by_reserve), so by induction over the moves none before the
+-- last move (none_is_same), or before played move k (none_is_same_before), is the same, if that set the clock to 0.
 use Rattle.std.proofs.Common.{◌≡◌, ◌∙◌, inl, inr, ℕ, zero, suc, ◌+◌, ◌<◌, ◌≤◌, true, false, List, [], ◌∷◌, ◌++◌, length, get_or, Option, None, Some, refl, sym, ap, subst, arith, ◌==◌, sum, if◌then◌else◌}
 use Rattle.std.proofs.{Math.Seq.get_or-append_seam, lemmas.List.length-append, lemmas.List.get_or_append_left, lemmas.Bool.cases_Bool, lemmas.Bool.and_parts, lemmas.Bool.eqb-true}
 use Rattle.chess_base.specs.{declared.man.Move.Move, declared.man.Kind.TheVariants.Pawn, declared.man.Man.Man, declared.setup.Saved.Saved, declared.setup.Setup.Setup, Moves.after, shared.Below.from_below, laws.Reserve.reserve, laws.Reserve.weight, laws.Reserve.ranks_to_go, laws.Laws.ReserveNeverGrows, laws.Laws.ReserveFallsForGood, Letters.white_letter}

@@ -1,7 +1,7 @@
 -- The index of a game's positions: a table with the latest position of each bucket (its head), and with each played
--- move a link to the one before in its bucket. Here: adding a position (pushed_index), taking the last away
--- (popped_index), emptying the table from the last position back to the start (heads_back, cleared). `known_at .. k` is
--- the position with number k, 0 for the start.
+-- move a link to the one before in its bucket, and a count. It is right for a new game (begun), and stays so with one
+-- move more (pushed_index) or fewer (popped_index) and while the table is emptied from the last position back
+-- (heads_back, cleared): only the head of that move's bucket changes. `known_at .. k` is the position with number k.
 use Rattle.std.proofs.Common.{◌≡◌, ◌≢◌, ◌∙◌, ℕ, suc, ◌-◌, ◌<◌, ◌≤◌, ◌==◌, Bool, true, false, List, [], ◌∷◌, ◌++◌, length, get_or, set, refl, sym, ap, subst, arith, true≢false, eqb-true, eq-eqb}
 use Rattle.std.proofs.Math.Seq.{get_or-append_seam}
 use Rattle.std.proofs.lemmas.List.{get_or-set_same, get_or-set_other, length-set, length-append, get_or_append_left}

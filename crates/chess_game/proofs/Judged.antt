@@ -1,5 +1,7 @@
--- No verdict came before the last move of a game (`IsUnended`): so it stays with one more move, if there was no verdict
--- yet (unended_more), and with one move fewer (unended_fewer).
+-- `IsUnended` (no verdict came before a game's last move) holds with one more move, if there was no verdict yet
+-- (unended_more), and with one move fewer (unended_fewer): each beginning of one list of moves is a beginning of the
+-- other, or all of it. Also: the last played move holds the game's last move (last_is), and a game that is not over has
+-- no verdict (no_verdict).
 use Rattle.std.proofs.Common.{◌≡◌, ◌∙◌, ◌⊎◌, inl, inr, ℕ, ◌+◌, ◌-◌, ◌<◌, List, [], ◌∷◌, ◌++◌, length, take, slice_get, Option, None, Some, is_some, Ok, Bool, false, ◌||◌, refl, sym, ap, subst, arith}
 use Rattle.std.proofs.{Math.Seq.take-length, lemmas.List.map-append, lemmas.List.length-append, lemmas.List.take-append-le}
 use Rattle.chess_base.specs.{declared.setup.Setup.Setup, declared.man.Move.Move}

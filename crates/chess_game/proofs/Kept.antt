@@ -1,6 +1,8 @@
--- The played moves that a game keeps follow from its start (`Follows`): each was legal, and is kept with what it
--- captured and the position that it reached. Here: what one more move adds (added), what taking one back leaves (taken,
--- fewer), the same for hashes, and where a push puts its element (pushed_last).
+-- The played moves follow from the start (`Follows`: each was legal, and is kept with what it captured and the position
+-- that it reached) with one more move (added), without the last (taken, fewer) and up to move n (follows_take), by
+-- induction over them. So they are a line (kept_line), and each reached its position (at_place, at_end). Also: all keep
+-- their hashes (hashes_more, hashes_fewer), a push puts its element last (pushed_last, with_entry), and a game that
+-- isn't full has memory for one move more (room).
 use Rattle.std.proofs.Common.{◌≡◌, ◌∙◌, ℕ, zero, suc, ◌+◌, ◌-◌, ◌<◌, List, [], ◌∷◌, ◌++◌, length, take, drop, get_or, Option, Result, Ok, Err, is_ok, is_err, Bool, false, if◌then◌else◌, refl, sym, ap, subst, arith, set}
 use Rattle.std.proofs.{Math.Seq.take-length, Math.Seq.take-append_seam, Math.Seq.set-append_seam, lemmas.Bool.Decides.nat_tests}
 use Rattle.std.proofs.lemmas.List.{length-map, map-append, length-append, drop_at, get_or_at}

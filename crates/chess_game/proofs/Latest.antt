@@ -1,5 +1,7 @@
--- Two functions of a test t on numbers: the latest number below n that passes, plus one, or 0 if none does
--- (`latest_below`), and how many pass (`count_below`). From n to n + 1 both change only if n passes.
+-- For a test t on numbers: the latest number below n that passes, plus one, or 0 if none does (`latest_below`), and how
+-- many pass (`count_below`). Here by induction over n: both are at most n (_low), are the same for tests that agree
+-- below n (_alike), and from n to n + 1 change only if n passes (_here, _fails). And no number after the latest that
+-- passes t passes a test that only such numbers pass (skipped).
 use Rattle.std.proofs.Common.{◌≡◌, ◌∙◌, ℕ, zero, suc, ◌+◌, ◌<◌, ◌≤◌, Bool, true, false, cond, if◌then◌else◌, refl, sym, ap, subst, arith, true≢false}
 use Rattle.chess_game.specs.ties.Buckets.{latest_below, count_below}
 

@@ -1,5 +1,6 @@
--- The positions of a game by their numbers (`known_at`: 0 is the start, k + 1 what played move k reached): each has its
--- hash, and is sound.
+-- The positions of a game by their numbers (`known_at`: 0 is the start, k + 1 what played move k reached: known_place).
+-- One more played move keeps those before it (known_before) and adds the one that it reached (known_last). Each has its
+-- hash (hash_of_known) and is sound if the last one is (sound_is). By induction over the played moves.
 use Rattle.std.proofs.Common.{◌≡◌, ℕ, zero, suc, ◌<◌, List, [], ◌∷◌, ◌++◌, length, get_or, refl, sym, subst, arith}
 use Rattle.chess_base.specs.Sound.{IsSound}
 use Rattle.chess_game.specs.{Line.position_after, ties.Buckets.known_at, declared.game.PlayedMove.PlayedMove, declared.repetition.Hashed.Hashed}

@@ -1,5 +1,5 @@
--- The positions of a game are its start and those that its played moves reached, since each of these is the one after
--- its move.
+-- The positions of a game (`positions_of`) are its start and those that its played moves reached (reached_are): by
+-- induction over the played moves, since by `Follows` each reached the position after its move.
 use Rattle.std.proofs.Common.{◌≡◌, ◌∙◌, List, [], ◌∷◌, refl, sym, ap}
 use Rattle.chess_base.specs.declared.setup.Setup.{Setup}
 use Rattle.chess_game.specs.{Line.positions_of, ties.PlayedMoves.moves_of, ties.PlayedMoves.Follows, ties.PositionsLeft.positions_reached, declared.game.PlayedMove.PlayedMove}

@@ -1,4 +1,5 @@
--- Each position is the same as itself (same_self), since each of its parts is equal to itself.
+-- Each position is the same as itself (same_self), part by part: side, pieces square by square (man_self says it of the
+-- content of one square), rights and the square of a legal capture en passant.
 use Rattle.std.proofs.Common.{◌≡◌, ℕ, true, Option, None, Some, refl}
 use Rattle.std.proofs.lemmas.Bool.{and_from, eq-eqb}
 use Rattle.chess_base.specs.{declared.man.Man.Man, declared.man.Rights.Rights, declared.man.ColourRights.ColourRights, declared.setup.Setup.Setup, Men.Men, Men.man_at}

@@ -1,4 +1,7 @@
--- A piece of a kind is on the board exactly if the set of the squares of that kind isn't empty (some_of_kind).
+-- A piece of a kind is on the board exactly if the set of the squares of that kind isn't empty (some_of_kind): a test
+-- of some of a list's 64 elements is one of some square (any_square, by induction over the first n). Also: a piece of a
+-- kind is White's or Black's (of_colours), and some pawn, rook or queen is on the board exactly if one of these three
+-- kinds is (by_kinds).
 use Rattle.std.proofs.Common.{◌≡◌, ℕ, zero, suc, ◌+◌, ◌<◌, ◌≤◌, Bool, not, ◌&&◌, ◌||◌, Option, Some, None, List, [], ◌∷◌, length, get_or, take, refl, sym, ◌∙◌, ap, arith}
 use Rattle.std.proofs.{Math.Seq.take-length, lemmas.List.Folds.list_any_more}
 use Rattle.std.specs.List.{list_any}

@@ -1,4 +1,5 @@
--- At most 60 first bytes of a text, with `?` for each that isn't printable, may be a tag's text (tag_text_is).
+-- At most 60 first bytes of a text, with `?` for each that isn't printable, may be a tag's text (tag_text_is):
+-- `shown_byte` gives only printable bytes, so all that are kept are (kept_text of CommentTexts).
 use Rattle.std.proofs.Common.{◌≡◌, ℕ, ◌≤◌, List, length, map, take, ap, arith}
 use Rattle.std.proofs.{lemmas.Bool.Decides.nat_tests, lemmas.List.length-map, lemmas.List.length-take}
 use Rattle.chess_game.specs.Results.{IsTagText}

@@ -1,5 +1,6 @@
--- Pieces put kind by kind on the squares of packed sets make the board that the sets say (kinds_put, men_all). In each
--- kind's loop put_more is the step (`PutsOn` is its invariant) and put_all the end.
+-- Pieces put kind by kind on an empty board (none_put), on the squares of packed sets, make the board that the sets
+-- say: square by square (kinds_put), so as a whole (men_all). In each kind's loop `PutsOn` is the invariant, put_more
+-- its step, by whether a square is the one just filled, and put_all the end.
 use mathlib.Core.Bool.{and-false}
 use Rattle.std.proofs.Common.{◌≡◌, ◌≢◌, ℕ, ◌<◌, ◌==◌, ◌⊎◌, inl, inr, Bool, true, false, ◌&&◌, if◌then◌else◌, refl, sym, ◌∙◌, ap, subst, arith, Option, Some, None, List, [], ◌∷◌, length, set, get_or-set_same, get_or-set_other, length-set, replicate}
 use Rattle.std.proofs.lemmas.Bool.{cases_Bool, cases_eq, eqb-true, ne_eqb}

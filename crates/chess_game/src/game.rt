@@ -123,8 +123,9 @@ fn repetitions(played_moves: &[PlayedMove]) -> u32
     }
 }
 
-// The verdict on a game whose present position has a legal move, so that it is neither mate nor stalemate. The board is
-// at this position, and `played_moves` led to it.
+// The verdict on a game whose present position has a legal move, so that it is neither mate nor stalemate: the first of
+// the others that holds (the 75-move rule from 150 half-moves on). The board is at this position, and `played_moves`
+// led to it.
 #[tactic(auto, unfolding(crate::specs::Ends::verdict))]
 #[inline(always)]
 fn verdict_of_moving<B: Board>(board: &B, played_moves: &[PlayedMove]) -> Option<Verdict>
@@ -143,7 +144,7 @@ fn verdict_of_moving<B: Board>(board: &B, played_moves: &[PlayedMove]) -> Option
     }
 }
 
-// The verdict on a game, such as mate or stalemate, if there is one. The board is at its present position,
+// The verdict on a game, such as mate or stalemate, if there is one. The board is at the game's present position, and
 // `played_moves` led to it.
 #[tactic(auto, unfolding(crate::specs::Ends::verdict))]
 fn verdict_on<B: Board>(board: &B, played_moves: &[PlayedMove]) -> Option<Verdict>
@@ -432,8 +433,8 @@ impl<B: Board> Game<B> {
         repetitions(self.played_moves.as_slice())
     }
 
-    /// By what the player on move may claim a draw: the position is there for at least the third time, or each side
-    /// has made at least 50 moves without a pawn move or capture.
+    /// By what the player on move may claim a draw: the position is there for at least the third time, or each side has
+    /// made at least 50 moves (100 half-moves in all) without a pawn move or capture.
     pub fn claims(&self) -> Claims
         ensures { result ≡ claims self.now.state.start self.now.state.moves }
     {

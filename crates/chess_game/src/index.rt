@@ -74,7 +74,9 @@ fn oldest(played_moves: &[PlayedMove], now: &Hashed) -> usize
 
 // How many positions of the game are the same as `now`, the position after `played_moves` and one move more, itself
 // included: one more than the count of the latest earlier position that is the same, or 1 if none is. That position is
-// looked for along the links of the bucket, from `head`, the bucket's latest position (its number plus one, or 0).
+// looked for along the links of the bucket, from `head`, the bucket's latest position (its number plus one, or 0), back
+// to `oldest`: none before that can be the same. In the walk `at` is a number plus one too: 0 is the end of the links,
+// 1 the start, 2 what the first played move reached.
 fn count_same(head: u16, start: &Hashed, played_moves: &[PlayedMove], now: &Hashed) -> u32
     requires start { IsKnown start.now }
     requires now { IsKnown now.now }
@@ -122,7 +124,7 @@ impl Index {
         })
     }
 
-    // Adds the start of a game to an empty index.
+    // Adds the start of a game to an empty index: as the head of its bucket, which is its number plus one, 1.
     pub(crate) fn begin(&mut self, start: &Hashed)
         requires { IsEmpty self.old.heads.items }
         ensures { IsIndexed self.new.heads.items start.now [] }
@@ -131,6 +133,7 @@ impl Index {
     }
 
     // Adds the position `reached`, to which one move after `played_moves` led, to its bucket, and returns its entry.
+    // Its number is that of the moves before it plus one; as the head of its bucket it is written as one more.
     pub(crate) fn push(
         &mut self,
         start: &Hashed,
@@ -177,8 +180,8 @@ impl Index {
         self.remove(played_move);
     }
 
-    // Removes all positions of the game from `start` by `played_moves`, one by one: so the time that this takes depends
-    // on the game's length, not on the number of buckets.
+    // Removes all positions of the game from `start` by `played_moves`, one by one from the last, and the start: so the
+    // time that this takes depends on the game's length, not on the number of buckets.
     pub(crate) fn clear(&mut self, start: &Hashed, played_moves: &[PlayedMove])
         requires { IsIndexed self.old.heads.items start.now played_moves.now }
         ensures { IsEmpty self.new.heads.items }

@@ -1,5 +1,6 @@
--- In Chess960 a right to castle is one of a sound position exactly if king and rook are on their first rank, the rook
--- on the right's side of the king (AreAtHome): the test on ranks and files against named squares.
+-- In Chess960, where a colour has one king, its right to castle is sound exactly if king and rook are on its first
+-- rank, the rook on the right's side of the king (AreAtHome). The definition tests ranks and the order of the squares:
+-- each such test is compared with the named squares (of a rank: a1 to h1, a8 to h8), in both directions.
 use Rattle.std.proofs.Common.{◌≡◌, ℕ, ◌≤◌, Bool, true, false, ◌&&◌, ◌==◌, Option, Some, None, refl, sym, ◌∙◌, subst, arith}
 use Rattle.std.specs.Option.{option_map_or}
 use Rattle.std.proofs.lemmas.Bool.{and_parts, and_from, eqb-true, eq-eqb}

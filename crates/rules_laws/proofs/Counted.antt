@@ -1,7 +1,8 @@
--- Repetitions and quiet moves, counted without the game's count and clock. The position is there for the n-th time
--- (IsThere) exactly if repetition_count is at least n, and the last n half-moves were quiet (IsQuietFor) exactly if the
--- halfmove clock is at least n, by induction over the moves; so the game ends, and draws can be claimed, as
--- counting_ends says.
+-- The position is there for the n-th time (IsThere) exactly if repetition_count is at least n (there, counted): a
+-- rising list of indices of positions that are the same is no longer than their count (no_more). The last n half-moves
+-- were quiet (IsQuietFor) exactly if the clock is at least n (clocks_count_quiet_moves), by induction over the moves.
+-- So ends and claims are stated without count and clock (counting_ends). A move raises the counters up to their limit
+-- (counters_stop).
 use Rattle.std.proofs.Common.{◌≡◌, ℕ, zero, suc, ◌+◌, ◌-◌, ◌<◌, ◌≤◌, min, Bool, true, false, cond, List, [], ◌∷◌, length, get_or, Some, None, refl, sym, ap, ◌∙◌, arith, nat_le, inl, inr, count_by, subst, ◌⊎◌}
 use Rattle.std.proofs.lemmas.Bool.{cases_Bool, cases_eq, both_ways, leb-true, le-leb, or_parts, or_from}
 use Rattle.std.proofs.lemmas.List.Sums.{sum_by-cons}

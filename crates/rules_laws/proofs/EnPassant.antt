@@ -1,5 +1,7 @@
--- A legal capture en passant follows a double advance, and captures the pawn that made it: the capture goes to the en
--- passant target (to_target), and there is a target only after a double advance over it (target_of).
+-- Of two legal moves, if the second captures en passant, the first was the double advance of the pawn that it captures
+-- (follows). By cases of the kind of the second move, it goes to the en passant target (to_target); the first left a
+-- target only if it was a double advance over that square (target_of); and the pawn past the target is captured
+-- (captured).
 use Rattle.std.proofs.Common.{◌≡◌, ◌≢◌, ℕ, ◌<◌, ◌⊎◌, inl, inr, Bool, true, false, Option, Some, None, refl, sym, arith, ◌==◌, ◌||◌, if◌then◌else◌}
 use Rattle.std.proofs.lemmas.Bool.{and_parts, and_from, both_ways, not-true, or_left, eqb-true, eq-eqb, ne_eqb, or_right}
 use Rattle.chess_base.specs.{declared.man.Colour.Colour, declared.man.Colour.TheVariants.White, declared.man.Colour.TheVariants.Black, declared.man.Kind.TheVariants.King, declared.man.Kind.TheVariants.Pawn, declared.man.Move.Move, declared.setup.Setup.Setup, Squares.file, Squares.rank, Squares.is_at, Attacks.attacks, Sound.IsSound, Sound.no_pawn_on_end_ranks}

@@ -1,4 +1,5 @@
--- The legal moves of the initial position are the 20 that are listed, by the rules of either variant; by computation.
+-- The legal moves of the initial position are the 20 that are listed, in this order, by the rules of either variant: by
+-- computation, once for each variant, the list of legal moves is the one named.
 use Rattle.std.proofs.Common.{refl}
 use Rattle.chess_base.specs.{declared.man.Variant.TheVariants.Normal, declared.man.Variant.TheVariants.Fischerandom, Men.is_of, Men.is_man, Initial.initial_setup_of, MoveList.all_moves, MoveList.moves}
 use Rattle.chess_base.specs.Squares.{squares, some_square, each_square, is_between}

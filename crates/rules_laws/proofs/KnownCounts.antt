@@ -1,4 +1,5 @@
--- How many legal moves known positions have, and in which of Chess960 the king may castle, by computation.
+-- How many legal moves six positions have (MovesAreAsMany), and in which of Chess960 the king may castle
+-- (CastlingIsKnown), by computation: with the listed definitions unfolded, both sides of each equation are one value.
 use Rattle.std.proofs.Common.{refl}
 use Rattle.chess_base.specs.Attacks.{is_clear, could_capture, attacks, is_attacked, is_in_check}
 use Rattle.chess_base.specs.Castling.{king_square, right_is_sound, is_castling_to, castling, castle_of, castling_needs_empty, castling_way_is_empty, castling_way_is_safe, castles}

@@ -1,4 +1,5 @@
--- The verdicts on small endings, by computation: a FEN is read, and its verdict compared with the one that is named.
+-- The verdicts on small endings (EndingsAreJudged), by computation: with the listed definitions unfolded, the FEN is
+-- read and its verdict computed, which is the one that is named, or none.
 use Rattle.std.proofs.Common.{◌≡◌, Some, None, refl}
 use Rattle.chess_base.specs.Attacks.{is_clear, could_capture, attacks, is_attacked, is_in_check}
 use Rattle.chess_base.specs.Castling.{king_square, right_is_sound, is_castling_to, castling, castle_of, castling_needs_empty, castling_way_is_empty, castling_way_is_safe, castles}

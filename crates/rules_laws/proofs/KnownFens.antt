@@ -1,5 +1,5 @@
--- FENs that are refused or accepted, by computation: with the listed definitions unfolded, both sides of each statement
--- compute to the same value.
+-- Each listed FEN is refused for the named fault, or accepted (and written as named), by computation: with the listed
+-- definitions unfolded, both sides of each statement compute to the same value.
 use Rattle.std.proofs.Common.{refl}
 use Rattle.std.specs.Fmt.{digits}
 use Rattle.chess_base.specs.Attacks.{is_clear, could_capture, attacks, is_attacked, is_in_check}

@@ -1,4 +1,5 @@
--- Lines and the FENs that they lead to, by computation.
+-- Eight lines are legal and lead to their FENs, by computation: with the listed definitions unfolded, each move's test
+-- computes to true, and the FEN of the position at the end to the one that is named.
 use Rattle.std.proofs.Common.{refl}
 use Rattle.std.specs.Fmt.{digits}
 use Rattle.chess_base.specs.Attacks.{is_clear, could_capture, attacks, is_attacked, is_in_check}

@@ -1,5 +1,6 @@
--- Positions that are the same for repetition, and some that look alike and are not, by computation; and the pieces of
--- positions that are the same.
+-- Which known positions are the same for repetition, and which only look alike (PositionsAreTheSame), by computation;
+-- and positions that are the same have the same piece on each square (TheSameHaveTheSamePieces), since the test goes
+-- over all squares and compares colour and kind.
 use Rattle.std.proofs.Common.{◌≡◌, [], ◌∷◌, ◌++◌, Option, Some, None, Bool, true, false, ◌&&◌, refl, ap, arith}
 use Rattle.std.proofs.lemmas.Bool.{and_parts}
 use Rattle.std.specs.Option.{option_eq}

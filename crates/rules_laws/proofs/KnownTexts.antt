@@ -1,5 +1,6 @@
--- Moves and games that players know, as they are written, by computation: with the listed definitions unfolded, the
--- text that the definition makes is the one named.
+-- The known texts of the five laws: SAN and moves by squares, texts that denote a move or don't, results, numbered
+-- moves, and tags. By computation: with the listed definitions unfolded, the text that the definition makes (or whether
+-- a text denotes the move) is the one named.
 use Rattle.std.proofs.Common.{◌≡◌, Some, [], ◌∷◌, codes, refl}
 use Rattle.std.specs.Fmt.{digits}
 use Rattle.chess_base.specs.Attacks.{is_clear, could_capture, attacks, is_attacked, is_in_check}

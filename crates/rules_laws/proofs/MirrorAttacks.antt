@@ -1,6 +1,7 @@
--- In the mirror colours are exchanged, and square s is `mirrored s`: same file, rank counted from the other side. A
--- piece in the mirror attacks the mirrored squares of those it attacks: shown for ranks and files, lines, single
--- pieces, and then checks.
+-- In the mirror colours are exchanged, and square s is `mirrored s`: same file, rank 7 - r for r. A piece in the mirror
+-- attacks the mirrored squares of those it attacks (mirror_attacks_alike): distances of ranks and files are the same,
+-- so are the ways between squares and what each kind could capture; and some square passes a test exactly if some
+-- mirrored one does (some_mirrored), from which attacks by a colour and checks follow.
 use Rattle.std.proofs.Common.{◌≡◌, ℕ, ◌+◌, ◌-◌, ◌<◌, ◌≤◌, Bool, true, false, Some, None, Option, refl, sym, ap, ap₂, ◌∙◌, arith, ◌==◌, inl, inr, subst, ◌||◌, ◌&&◌, not, is_none, option_map}
 use Rattle.std.proofs.{lemmas.Bool.cases_eq, lemmas.Bool.eq-eqb, lemmas.Bool.ne_eqb, lemmas.Bool.Decides.nat_tests}
 use Rattle.std.specs.{Cmp.both_ways, Int.abs_diff}

@@ -1,5 +1,7 @@
--- Mate, stalemate and insufficient material are the same in the mirror: no move is legal there exactly if none is here,
--- and tests and counts of pieces give the same in both.
+-- Mate, stalemate and insufficient material are the same in the mirror. No move is legal there exactly if none is here,
+-- since a legal move's mirror is legal and its mirror is the move itself (move_twice). Tests and counts of pieces give
+-- the same in both, as sums over the squares with the ranks in the other order; bishops change the colour of their
+-- squares together.
 use Rattle.std.proofs.Common.{◌≡◌, ℕ, zero, suc, ◌+◌, ◌-◌, ◌%◌, ◌<◌, ◌≤◌, Bool, cond, Some, None, Option, refl, sym, ap, ap₂, ◌∙◌, arith, ◌==◌, subst, ◌||◌, ◌&&◌, List, [], ◌∷◌, length, map, count_by, ext_get_or}
 use Rattle.std.proofs.{lemmas.Bool.both_ways, lemmas.Bool.false_from_ne_true, lemmas.Bool.Decides.nat_tests, lemmas.List.Sums.sum_by-cons, Math.Bool.and_comm}
 use Rattle.std.specs.List.{list_any}

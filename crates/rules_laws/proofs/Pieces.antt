@@ -1,4 +1,6 @@
--- What a piece of a known kind attacks, and what is on a square after a move.
+-- What a piece of a known colour and kind attacks (attacks_as, king_is_near), that a move in its piece's pattern goes
+-- where the piece attacks (attacks_of), and what is on a square after castling (after_castle) and after any other move
+-- (after_no_castle): read off the definitions, by their parts.
 use Rattle.std.proofs.Common.{◌≡◌, ◌≢◌, ℕ, ◌<◌, ◌≤◌, true, Option, Some, None, refl, ap, ◌∙◌, ◌==◌, ◌&&◌, not, nat_le}
 use Rattle.std.proofs.lemmas.Bool.{and_parts, eqb-false, leb-true, not-true}
 use Rattle.std.specs.{Int.abs_diff, Option.option_map_or}

@@ -1,4 +1,6 @@
--- Knights, kings and pawns attack from each square just those that the tables list, by computation.
+-- On any board knights, kings and pawns could capture from each square just on those that the tables list, by
+-- computation: what these pieces reach doesn't depend on the other pieces, so each table is computed for all squares at
+-- once.
 use Rattle.std.proofs.Common.{refl}
 use Rattle.chess_base.specs.Attacks.{could_capture}
 use Rattle.rules_laws.specs.Reach.{TablesHold}

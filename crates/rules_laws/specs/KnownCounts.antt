@@ -14,11 +14,11 @@ use Rattle.rules_laws.specs.KnownGames.{move_by}
 
 -- ---- counts
 
--- how many moves are legal in the position of a FEN; `None` if it is refused
+-- how many moves are legal in the position of a FEN of variant v; `None` if it is refused
 abbrev pub move_count : Variant → Text → Option ℕ
 move_count v text = option_map (λ p. length (moves p)) (result_ok (fen_reading_as v (codes text)))
 
--- the position of a FEN has n legal moves
+-- the position of this FEN, read as one of variant v, has n legal moves
 abbrev pub HasMoves : Variant → Text → ℕ → Type 0
 HasMoves v text n = move_count v text ≡ Some n
 
@@ -59,16 +59,18 @@ pub record MovesAreAsMany : Type 0 where
 
 -- ---- castling in Chess960 (Guidelines II)
 
--- whether the king on one named square may castle with the rook on another, in the position of a FEN of Chess960
+-- whether the king on one named square may castle with the rook on another, in the position of a FEN of Chess960;
+-- `None` if the FEN is refused
 abbrev pub castling_in : Text → Text → Text → Option Bool
 castling_in text king rook =
     option_map (λ p. is_legal p (move_by king rook)) (result_ok (fen_reading_as Fischerandom (codes text)))
 
--- the king on the first square may castle with the rook on the second
+-- in the position of this FEN the king on the first square may castle with the rook on the second
 abbrev pub MayCastleIn : Text → Text → Text → Type 0
 MayCastleIn text king rook = castling_in text king rook ≡ Some true
 
--- the king on the first square may not castle with the rook on the second
+-- in the position of this FEN, which is accepted, the king on the first square may not castle with the rook on the
+-- second
 abbrev pub MayNotCastleIn : Text → Text → Text → Type 0
 MayNotCastleIn text king rook = castling_in text king rook ≡ Some false
 
@@ -87,7 +89,7 @@ pub record CastlingIsKnown : Type 0 where
 
 -- ---- ends
 
--- the verdict on the position of a FEN of normal chess, `Some None` if it has none
+-- the verdict on the position of a FEN of normal chess: `Some None` if it has none, `None` if the FEN is refused
 abbrev pub judged_fen : Text → Option (Option Verdict)
 judged_fen text = option_map (λ p. verdict p []) (result_ok (fen_reading_as Normal (codes text)))
 

@@ -22,7 +22,7 @@ scholars_mate =
 abbrev pub fools_mate : List Move
 fools_mate = move_by "f2" "f3" ∷ move_by "e7" "e5" ∷ move_by "g2" "g4" ∷ move_by "d8" "h4" ∷ []
 
--- the moves of both games are legal, and the last one mates
+-- the moves of both games are legal, and the last one mates: White wins the scholar's mate, and Black the fool's mate
 pub record KnownGamesEnd : Type 0 where
   pub scholars : IsLine initial_setup scholars_mate
   pub white_mates : verdict initial_setup scholars_mate ≡ Some WhiteMates

@@ -122,7 +122,8 @@ IsWrittenAs text written = option_map fen (result_ok (fen_reading_as Fischerando
 abbrev pub HasWrongRights : Text → Type 0
 HasWrongRights text = fen_reading_as Fischerandom (codes text) ≡ Err Castling
 
--- FENs that are refused, each for the first of its faults, and similar ones that are accepted
+-- FENs that are refused, each for the first of its faults, and similar ones that are accepted, some with the FEN with
+-- which their position is written
 pub record FensAreRefused : Type 0 where
   pub no_king : IsRefused "8/8/8/8/8/8/8/4K3 w - - 0 1" Kings
   pub no_white_king : IsRefused "4k3/8/8/8/8/8/8/8 w - - 0 1" Kings

@@ -36,7 +36,7 @@ use Rattle.rules_laws.specs.Names.{square}
 abbrev pub san_in : Text → Move → Option (List ℕ)
 san_in text m = option_map (λ p. san p m) (result_ok (fen_reading_as Normal (codes text)))
 
--- in the position of a FEN the move's SAN is `written`
+-- in the position of this FEN of normal chess, which is accepted, the move's SAN is `written`
 abbrev pub IsWritten : Text → Move → Text → Type 0
 IsWritten text m written = san_in text m ≡ Some (codes written)
 
@@ -62,11 +62,12 @@ pub record MovesAreWritten : Type 0 where
   pub en_passant : IsWritten "4k3/8/8/3pP3/8/8/8/4K3 w - d6 0 1" (move_by "e5" "d6") "exd6"
   pub to_knight : IsWritten "1r2k3/P7/8/8/8/8/8/4K3 w - - 0 1" (becomes_knight "a7" "b8") "axb8=N"
 
--- a move's text by its squares in the position of a FEN of variant v
+-- a move's text by its squares (or `O-O` and `O-O-O` in Chess960) in the position of a FEN of variant v; `None` if the
+-- FEN is refused
 abbrev pub shown_in : Variant → Text → Move → Option (List ℕ)
 shown_in v text m = option_map (λ p. shown_move p m) (result_ok (fen_reading_as v (codes text)))
 
--- in the position of a FEN the move is shown by its squares as `shown`
+-- in the position of this FEN of variant v, which is accepted, `shown` is the move's text by its squares
 abbrev pub IsShown : Variant → Text → Move → Text → Type 0
 IsShown v text m shown = shown_in v text m ≡ Some (codes shown)
 
@@ -89,7 +90,7 @@ AreTextsAs v text m texts others = option_map
 abbrev pub AreItsTexts : Text → Move → List (List ℕ) → List (List ℕ) → Type 0
 AreItsTexts = AreTextsAs Normal
 
--- texts that denote a move, its SAN among them, and others that don't
+-- for each of nine moves, texts that denote it, its SAN among them, and others that don't
 pub record TextsDenoteMoves : Type 0 where
   pub capture : AreItsTexts "4k3/8/8/3p4/4P3/8/8/4K3 w - - 0 1" (move_by "e4" "d5")
       (codes "exd5" ∷ codes "ed5" ∷ codes "e4d5" ∷ codes "e4xd5" ∷ codes "exd5!?" ∷ codes "exd5+" ∷ [])
@@ -142,12 +143,13 @@ pub record ResultsAreWorded : Type 0 where
 
 -- ---- PGN
 
--- the PGN tokens (move numbers, moves, result) of the game by these moves from the position of a FEN
+-- the PGN tokens (move numbers, moves, result) of the game by these moves from the position of a FEN of normal chess;
+-- `None` if the FEN is refused
 abbrev pub tokens_from : Text → List Move → Option (List (List ℕ))
 tokens_from text ms = option_map (λ p. game_tokens (record { start = p; moves = ms; declared = None }))
     (result_ok (fen_reading_as Normal (codes text)))
 
--- how moves are numbered in PGN (section 8.2.2)
+-- how moves are numbered in PGN (section 8.2.2), in three games
 pub record MovesAreNumbered : Type 0 where
   -- the fool's mate: only White's moves have numbers
   pub white_first : move_tokens initial_setup fools_mate
@@ -177,7 +179,7 @@ last_tags s = drop 6 (tag_lines known_tags s)
 abbrev pub IsTermination : HowEnded → Outcome → Text → Type 0
 IsTermination ended outcome text = termination_text (termination_of ended outcome) ≡ codes text
 
--- the tags of games between A and B are these lines
+-- the tags of games between A and B are these lines; what the tag Termination says; and how a tag's text is cut
 pub record TagsAreInOrder : Type 0 where
   -- the first six of each game (section 8.1.1)
   pub first : (s : State) → take 6 (tag_lines known_tags s)

@@ -5,8 +5,8 @@
 ghost use Rattle.rules_laws.specs.KnownCounts.{CastlingIsKnown, EndingsAreJudged, MovesAreAsMany};
 ghost use Rattle.rules_laws.specs.KnownPositions.{FensAreRefused, LinesLeadToFens, PositionsAreTheSame, TheSameHaveTheSamePieces};
 
-/// A law: the contract says it, and the function does nothing. Known lines are legal, and lead to positions with the
-/// FENs that are named (three are examples of the PGN standard of 1994, section 16.1.4).
+/// A law: the contract says it, and the function does nothing. Eight known lines from the initial position are legal,
+/// and lead to positions with the FENs that are named (three are examples of the PGN standard of 1994, section 16.1.4).
 ///
 /// It refuses definitions with one of these mistakes: in these lines a right to castle is lost without a reason, an en
 /// passant target is missing, the move number rises after White's move, or castling or a promotion leaves wrong pieces.
@@ -14,9 +14,11 @@ pub fn known_lines_lead_to_these_fens()
     ensures { LinesLeadToFens }
 {}
 
-/// A law: the contract says it, and the function does nothing. Known FENs are refused, each for the first of its
-/// faults, and similar ones are accepted: some for each condition of a sound position, and some for each field. Fields
-/// are separated by spaces, not by a tab. Where the counters are left out they are 0 and 1.
+/// A law: the contract says it, and the function does nothing. Known FENs of normal chess and Chess960 are refused,
+/// each for the first of its faults, and similar ones are accepted: some for each condition of a sound position, and
+/// some for each field. Fields are separated by spaces, not by a tab. Where the counters are left out they are 0 and 1.
+/// Some accepted FENs also have the FEN with which their position is written, such as one with `HA` for `KQ` in
+/// Chess960.
 pub fn known_fens_are_refused()
     ensures { FensAreRefused }
 {}
@@ -41,8 +43,8 @@ pub fn known_positions_have_so_many_moves()
     ensures castling { CastlingIsKnown }
 {}
 
-/// A law: the contract says it, and the function does nothing. Small positions are mate, stalemate, or drawn for
-/// insufficient material or by the 75-move rule.
+/// A law: the contract says it, and the function does nothing. Ten small positions are mate, stalemate, or drawn for
+/// insufficient material or by the 75-move rule, as is named; one, a half-move short of 75 moves, has no verdict.
 ///
 /// It refuses definitions with one of these mistakes: a game continues with king and bishop against king, or if all
 /// bishops are on squares of one colour; or the 75-move rule comes before insufficient material.

@@ -4,9 +4,9 @@
 
 ghost use Rattle.rules_laws.specs.Mirror.{MirrorAttacksAlike, MirrorEndsAlike, MirrorGamesAlike, MirrorIsAsLegal, MirrorMovesAlike};
 
-/// A law: the contract says it, and the function does nothing. A piece in the mirror attacks just the mirrored squares,
-/// and a king is in check exactly if the mirrored king is: the rules are the same for both colours (FIDE Laws of Chess
-/// 2023, articles 3.1 to 3.9).
+/// A law: the contract says it, and the function does nothing. In the mirror the ways between squares are clear, pieces
+/// attack, colours attack squares, and kings are in check just as on the board, with squares mirrored and colours
+/// exchanged: the rules are the same for both colours (FIDE Laws of Chess 2023, articles 3.1 to 3.9).
 ///
 /// It refuses definitions by which one colour attacks otherwise than the other, such as black pawns that attack up the
 /// board.

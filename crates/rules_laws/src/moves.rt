@@ -1,5 +1,5 @@
-//! Laws of how pieces move. A caller learns one by calling its function, which does nothing. What a law refuses are
-//! wrong definitions: with one of them it can't be proved.
+//! Laws of how pieces move. A caller learns one by calling its function, which does nothing. That a law refuses a
+//! definition means: with this definition the law can't be proved.
 
 ghost use Rattle.rules_laws.specs.Castled.{FischerandomCastlingEnds, FischerandomRightsAreAtHome, NormalCastlingEnds, NormalCastlingIsLegal};
 ghost use Rattle.rules_laws.specs.EnPassant.{EnPassantFollowsDoubleAdvance};
@@ -8,8 +8,9 @@ ghost use Rattle.rules_laws.specs.KnownGames.{KnownGamesEnd};
 ghost use Rattle.rules_laws.specs.Reach.{TablesHold};
 ghost use Rattle.rules_laws.specs.Sliders.{DiagramsHold};
 
-/// A law: the contract says it, and the function does nothing. From each square a knight, a king and a pawn attack the
-/// squares that plain tables list by name (FIDE Laws of Chess 2023, articles 3.6, 3.7.3 and 3.8.1).
+/// A law: the contract says it, and the function does nothing. From each square, whatever the other pieces are, a
+/// knight and a king attack just the squares that plain tables list by name, and so does a pawn of each colour from a2
+/// to h7 (FIDE Laws of Chess 2023, articles 3.6, 3.7.3 and 3.8.1).
 ///
 /// It refuses definitions with one of these mistakes: any other reach, such as two squares each way for a knight, or
 /// straight ahead for a pawn.
@@ -17,8 +18,9 @@ pub fn pieces_reach_by_tables()
     ensures { TablesHold }
 {}
 
-/// A law: the contract says it, and the function does nothing. On a board with pieces in their way, rook, bishop and
-/// queen attack the squares that diagrams mark (FIDE Laws of Chess 2023, articles 3.2 to 3.5).
+/// A law: the contract says it, and the function does nothing. On a board with pieces in their way, a rook, a bishop
+/// and a queen of either colour on d4 attack just the squares that diagrams mark (FIDE Laws of Chess 2023, articles 3.2
+/// to 3.5).
 ///
 /// It refuses definitions with one of these mistakes: a piece that jumps, that goes past the first piece in its way, or
 /// that stops before it.
@@ -26,9 +28,10 @@ pub fn lines_end_at_the_first_piece()
     ensures { DiagramsHold }
 {}
 
-/// A law: the contract says it, and the function does nothing. Castling takes the king to the g-file or the c-file of
-/// its first rank and the rook to the f-file or the d-file, in normal chess and in Chess960 (FIDE Laws of Chess 2023,
-/// article 3.8.2 and Guidelines II). The squares are named, as `e1` and `g1`.
+/// A law: the contract says it, and the function does nothing. In a sound position, castling takes the king to the
+/// g-file or the c-file of its first rank and the rook to the f-file or the d-file, in normal chess and in Chess960; no
+/// other piece moves (FIDE Laws of Chess 2023, article 3.8.2 and Guidelines II). The squares are named, as `e1` and
+/// `g1`.
 ///
 /// It refuses definitions with one of these mistakes: a rook that stays, or that ends on the c-file, and a king that
 /// ends on the b-file.
@@ -49,8 +52,9 @@ pub fn castling_needs_named_squares()
     ensures fischerandom { FischerandomRightsAreAtHome }
 {}
 
-/// A law: the contract says it, and the function does nothing. A pawn is captured en passant only by the move right
-/// after its double advance (FIDE Laws of Chess 2023, article 3.7.3.1).
+/// A law: the contract says it, and the function does nothing. Of two legal moves from a sound position, the second
+/// captures en passant only if the first was a pawn's double advance over the square to which the second goes; and it
+/// captures that pawn (FIDE Laws of Chess 2023, article 3.7.3.1).
 ///
 /// It refuses definitions with one of these mistakes: an en passant target that stays for a second move, a target after
 /// a single advance, and the capture of another pawn.

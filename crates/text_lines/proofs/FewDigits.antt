@@ -1,5 +1,7 @@
--- For `short_number`, whose loop reads a text of at most nine digits from left to right. After each digit the value is
--- small enough for the next step (small_number), and at the end it is the number of the definition (number_is).
+-- For `short_number`, whose loop reads a text of at most nine digits from left to right. After i digits the value is
+-- less than 10 ^ i, so it is small enough for the next step (small_number) and within the limit at the end
+-- (number_bound). At the end it is the number of the definition (number_is), as the library folds over digits in the
+-- same way.
 use Rattle.std.proofs.Common.{◌≡◌, ℕ, ◌+◌, ◌-◌, ◌*◌, ◌^◌, ◌<◌, ◌≤◌, true, nat_lt, nat_le, List, [], ◌∷◌, length, drop, Some, sym, ap, ◌∙◌, arith, rules}
 use Rattle.std.specs.List.{list_all}
 use Rattle.std.proofs.{Math.Nat.pow-le-pow_right, lemmas.Bool.Decides.nat_tests, lemmas.Grind.common_steps, lemmas.Str.Parse.IsNumeralModel, lemmas.Str.Parse.numerals_by_fold}

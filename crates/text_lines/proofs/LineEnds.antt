@@ -1,6 +1,7 @@
 -- For `held_line`, which looks for a `\n` (byte 10) among the bytes not yet looked at. If there is none, all of them go
 -- to the line that has begun, and no line is found (none_held). Otherwise those before it do, this line is found, and
--- the bytes after it stay to be looked at (line_held).
+-- the bytes after it stay to be looked at (line_held). Both by induction over these bytes. Also: parts with the same
+-- lines make the same line (same_line); a window that begins later lacks its first bytes (window_left).
 use Rattle.std.proofs.Common.{◌≡◌, ◌≢◌, ◌≤◌, ◌<◌, ℕ, ◌+◌, ◌-◌, eqb, Bool, true, false, List, [], ◌∷◌, ◌++◌, length, get_or, take, drop, Some, None, one-add, refl, sym, ap, subst, ◌∙◌, arith, append_assoc, append-nil, length-drop, eqb-true, cond, not, slice_range, ◌==◌}
 use Rattle.std.specs.List.{position_or_len}
 use Rattle.std.proofs.lemmas.List.{drop-drop, drop-take, drop_all, drop_more, take_all, length-take}

@@ -1,6 +1,8 @@
--- Of a line that is read only the first n bytes are kept, n being the limit of a line's length; a single byte 0 after
--- them stands for all that were dropped (`kept_part`). Whatever these were, the line is too long and the lines are the
--- same (overflow_same), and the line made from the bytes kept is the definition's (line_kept, line_put).
+-- Of a line that is read only the first n bytes are kept, n being the limit of a line's length; a byte 0 after them
+-- replaces all that were dropped (`kept_part`). The lines are the same, as this one is too long either way
+-- (overflow_same, by induction over the bytes that come, with ten_step and byte_step), and the line made from the bytes
+-- kept is the definition's (line_kept, line_put). Also lines where no byte follows (none_from, last_left), and that
+-- trimmed texts are no longer (_short).
 use Rattle.std.proofs.Common.{◌≡◌, ℕ, ◌+◌, ◌-◌, ◌<◌, ◌≤◌, ◌==◌, nat_lt, nat_eq, min, ◌≢◌, Bool, true, false, List, [], ◌∷◌, ◌++◌, length, take, drop, refl, sym, ap, ◌∙◌, arith, append_assoc, length-append, reverse}
 use Rattle.std.specs.List.{onto_first}
 use Rattle.std.proofs.{lemmas.List.Splits.slice_split-cons_yes, lemmas.List.Splits.slice_split-cons_no, lemmas.List.Splits.length-slice_split, Math.Nat.min-le_right, lemmas.Grind.common_steps, lemmas.Bool.Decides.nat_tests}

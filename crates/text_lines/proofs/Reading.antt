@@ -1,7 +1,7 @@
 -- For the loops of `read_line` and `read_line_until`, which read pieces until they hold a whole line. After each read
 -- (SoFar) the bytes held now give the same lines as those held at the call with all that was read since, whatever comes
--- next. One more piece keeps this (piece_on), and from it the contract follows at the input's end (at_the_end) and at a
--- failed read (fault_until).
+-- next. A piece more keeps this (piece_on), also after a wait (found); from it the contract follows at the input's end
+-- (at_the_end) and at a failed read (fault_until). Last, the clauses of the law `lines_are_pieces` (law_..).
 use Rattle.std.proofs.Common.{◌≡◌, ℕ, ◌+◌, ◌-◌, ◌<◌, ◌≤◌, inl, inr, Bool, true, false, List, [], ◌∷◌, ◌++◌, length, take, Option, Some, None, Result, Ok, Err, IsErr, refl, sym, ap, ◌∙◌, arith, append_assoc, append-nil, length-append, nat_eq, ◌==◌, not, subst, MatchBool}
 use Rattle.std.proofs.{Math.Seq.take-append_seam, lemmas.List.nil_from_length}
 use Rattle.text_lines.proofs.LineParts.{line_ended, ten_step, byte_step, none_from, last_left}

@@ -1,6 +1,7 @@
 -- For `cut_end` and `cut_return`. The definition reverses a text to cut the spaces and tabs at its end. So one as the
 -- last byte can be dropped (end_blank), and another last byte keeps the text whole (end_solid); `cut_end` does this at
--- the end of the first i bytes (end_step, end_stop).
+-- the end of the first i bytes (end_step, end_stop) until none is left (zero_end). A `\r` as the last byte is cut
+-- (return_then); without it the text stays whole (return_else).
 use Rattle.std.proofs.Common.{◌≡◌, ℕ, ◌+◌, ◌-◌, ◌<◌, ◌≤◌, true, false, List, [], ◌∷◌, ◌++◌, length, get_or, take, refl, sym, ap, ◌∙◌, ◌==◌, ◌≢◌, arith, if◌then◌else◌, reverse}
 use Rattle.std.proofs.lemmas.List.{take_more, reverse-append, reverse-reverse}
 use Rattle.text_lines.specs.Lines.{without_front_blanks, without_end_blanks, without_return}

@@ -5,8 +5,9 @@ ghost use Rattle.byte_devices.specs.Bytes.{new_line};
 ghost use Rattle.text_lines.specs.Lines.{stream_lines, line_of};
 ghost use Rattle.text_lines.specs.laws.Unended.{HasNoEnd};
 
-/// States a law and does nothing: each `\n` of a stream ends a line; what follows the last `\n` is a line too, if it
-/// isn't empty and the end of the stream was reported (`at_end`).
+/// States a law and does nothing. Of no bytes there is no line. Each `\n` of a stream ends a line; what follows the
+/// last `\n`, if it isn't empty, is a line too if the end of the stream was reported (`at_end`), and otherwise none
+/// yet. Lines of more than `n` bytes are too long.
 pub fn lines_are_pieces()
     ensures empty { (n : ℕ) (at_end : Bool) → stream_lines n at_end [] ≡ [] }
     ensures ended { (n : ℕ) (at_end : Bool) (piece rest : List ℕ) → HasNoEnd piece →

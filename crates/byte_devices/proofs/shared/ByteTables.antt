@@ -1,5 +1,6 @@
 -- For tables of bytes, such as one with a class for each of the 256 bytes: that a table agrees with a definition is
--- computed for all bytes at once (agree_below), and then holds for each (class_by_test).
+-- computed for all bytes at once (agree_below), and then holds for each (class_by_test), by induction over the bytes
+-- below 256.
 use Rattle.std.proofs.Common.{◌≡◌, ℕ, zero, suc, ◌<◌, Bool, true, false, ◌&&◌, nat_eq, get_or, List, refl, arith, inl, inr}
 use Rattle.std.specs.Bool.{beq}
 use Rattle.std.proofs.lemmas.Bool.{cases_eq}

@@ -1,6 +1,7 @@
 -- For crates that read or write in steps: what one step more makes of the facts of specs/Devices. If a text was taken
--- (`Took`), or cut short by a failure (`CutShort`), after another one, the same is said of both texts together; names
--- that end in _more say so.
+-- (`Took`), or cut short by a failure (`CutShort`), after another one, the same is said of both texts together (_more;
+-- of a list of texts: parts_), since their bytes are appended and their counts added. Also: where nothing happened
+-- (_none), a text and then a flush (sent_on, flush_on), and where `?` returns an error (_exit).
 use Rattle.std.proofs.Common.{◌≡◌, ℕ, zero, suc, ◌+◌, ◌^◌, ◌<◌, min, nat_eq, false, List, [], ◌++◌, length, take, drop, Option, None, Some, Result, Ok, Err, IsErr, refl, sym, ap, ◌∙◌, append_assoc, append-nil, arith, ◌-◌, get_or, add-one, ◌∷◌, flat_map, take-add, take-suc, take-append-drop, length-append}
 use Rattle.std.specs.Io.KnownBytes.{Keeps, Appends, Consumes}
 use Rattle.std.proofs.{lemmas.List.Concat.flat_map-append, lemmas.Grind.common_steps}

@@ -1,6 +1,7 @@
 -- For laws of whole runs: what a run read and wrote, as `FromInput` and `ToOutput` say it, put together from its calls
--- one after another. An output that took the text for some items, such as lines that were answered, takes the text for
--- one item more (took_one_more), or fails in it (took_some_more).
+-- one after another. A single call took nothing, all of a text, or some of it before a failure (took_nothing, took_all,
+-- took_some). An output that took the text for some items, such as lines that were answered, takes the text for one
+-- item more (took_one_more) or several (took_each), or fails in it (took_some_more).
 use mathlib.Core.Bool.{or-true}
 use Rattle.std.proofs.Common.{◌≡◌, ℕ, ◌-◌, ◌||◌, Bool, true, false, List, [], ◌∷◌, ◌++◌, length, take, if◌then◌else◌, suc, refl, sym, ap, subst, ◌∙◌, append_assoc, append-nil, arith, nat_lt}
 use Rattle.std.proofs.lemmas.Bool.Decides.{nat_tests}

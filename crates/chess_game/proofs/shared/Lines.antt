@@ -1,5 +1,6 @@
--- The position after a game's moves: how one more move changes it (position_after-snoc), that the variant stays, and
--- that legal moves from a sound start lead to a sound position (IsSound-position_after). For crates that follow a game.
+-- The position after a game's moves: how one more move changes it (position_after-snoc), that the variant stays
+-- (variant-position_after), and that legal moves from a sound start lead to a sound position (IsSound-position_after).
+-- Each by induction over the moves. For crates that follow a game.
 use Rattle.std.proofs.Common.{◌≡◌, List, [], ◌∷◌, ◌++◌, refl, ◌∙◌}
 use Rattle.chess_base.specs.{declared.man.Move.Move, declared.setup.Setup.Setup, Moves.after, Sound.IsSound}
 use Rattle.chess_base.proofs.{shared.After.variant-after, shared.LegalMoves.IsSound-after}

@@ -1,4 +1,5 @@
--- For readers of lines: texts without their spaces and tabs in front, and where no line is left.
+-- For readers of lines: of no bytes there is no line (nothing_left), and a text is no longer without the spaces and
+-- tabs at its front (without_front_blanks-short, by induction over the text).
 use Rattle.std.proofs.Common.{◌≡◌, ℕ, ◌≤◌, Bool, true, false, List, [], ◌∷◌, length, refl, arith}
 use Rattle.text_lines.specs.Lines.{lines_from, lines_of_parts, without_front_blanks}
 

@@ -1,5 +1,6 @@
 -- The walk goes over the positions of the bucket from the latest on; what is the same is in no other bucket, so none is
--- missed, and the first that is found keeps how many there are up to it (Walk).
+-- missed, and the first that is found keeps how many there are up to it (Walk). That is at most the number of
+-- positions, so one more doesn't overflow (walk_few).
 use Rattle.std.proofs.Common.{◌≡◌, ◌∙◌, ◌+◌, ◌-◌, ap, sym, subst, arith}
 use Rattle.std.proofs.lemmas.Bool.Decides.{nat_tests}
 use Rattle.chess_game.specs.{ties.PlayedMoves.IsKnown, declared.game.PlayedMove.PlayedMove}

@@ -1,4 +1,5 @@
--- A bishop on some square of that colour is one on some number below 64 (some_square_is of Squares).
+-- The loop ends at 64, so by its invariant `is_found` is whether a bishop is on a square of that colour with a number
+-- below 64; these are all squares of the board (some_square_is of Squares).
 use Rattle.std.proofs.Common.{◌≡◌, ◌∙◌, sym, arith}
 use Rattle.chess_game.specs.Ends.{has_bishop_on}
 use Rattle.chess_base.proofs.shared.Squares.{some_square_is}

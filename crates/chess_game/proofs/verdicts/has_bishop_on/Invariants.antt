@@ -1,4 +1,5 @@
--- The loop's invariant: `is_found` is whether such a bishop is on a square before `number`.
+-- The loop's invariant: `is_found` is whether a bishop is on a square of the colour that `parity` names, with a number
+-- below `number`.
 use Rattle.std.proofs.Common.{◌≡◌, ◌+◌, ◌%◌, ◌==◌, ◌&&◌}
 use Rattle.chess_base.specs.{declared.man.Kind.TheVariants.Bishop, Men.man_at, Squares.file, Squares.rank, shared.Below.some_below}
 use Rattle.chess_game.specs.Ends.{is_kind}

@@ -1,5 +1,5 @@
--- The count of repetitions and the clock, by which verdicts and claims are given, are at least n exactly if `IsThere n`
--- and `IsQuietFor n` hold of the game's positions and moves (Counted).
+-- Verdicts and claims ask whether the count of repetitions or the clock is at least n; it is exactly if `IsThere n` or
+-- `IsQuietFor n` holds of the game's positions and moves, by induction over these (counting_ends of Counted).
 use Rattle.rules_laws.proofs.Counted.{counting_ends}
 use Rattle.rules_laws.proofs.endings.repetitions_and_quiet_moves_end_a_game.Goals as goal
 

@@ -1,4 +1,4 @@
--- The verdicts of small endings, by computation (KnownEndings).
+-- The verdict on each small ending is computed from its FEN (KnownEndings).
 use Rattle.rules_laws.proofs.KnownEndings.{endings_are_judged}
 use Rattle.rules_laws.proofs.known.known_endings_are_judged.Goals as goal
 

@@ -1,4 +1,5 @@
--- A position and its mirror are both mate or neither, and likewise for the other endings (MirrorEndings).
+-- Mate and stalemate are mirrored since the mirror of a legal move is legal; insufficient material is, since pieces of
+-- a kind are as many, and bishops on squares of one colour stay on one colour (MirrorEndings).
 use Rattle.rules_laws.proofs.MirrorEndings.{mirror_ends_alike}
 use Rattle.rules_laws.proofs.mirror.endings_are_mirrored.Goals as goal
 

@@ -1,4 +1,5 @@
--- A game and its mirror have mirrored verdicts and the same draws to claim (MirrorGames).
+-- By induction over the moves the positions of both games are mirrors, but for the fullmove number, which no verdict or
+-- claim looks at; so the tests of verdicts and claims agree (MirrorGames).
 use Rattle.rules_laws.proofs.MirrorGames.{mirror_games_alike}
 use Rattle.rules_laws.proofs.mirror.games_are_mirrored.Goals as goal
 

@@ -1,5 +1,5 @@
--- Such a move of the king can only be castling, which leaves king and rook on the named squares, in normal chess and in
--- Chess960 (Castled).
+-- A king that goes so can only castle: its end isn't next to it, or is its own rook. Castling leaves king and rook on
+-- the named squares, in normal chess (normal_ends) and in Chess960 (fischerandom_ends of Castled).
 use Rattle.rules_laws.proofs.Castled.{normal_ends, fischerandom_ends}
 use Rattle.rules_laws.proofs.moves.castling_ends_on_named_squares.Goals as goal
 

@@ -1,5 +1,6 @@
--- Castling is legal in normal chess exactly by what is asked of the named squares (MayCastle); and in Chess960 king and
--- rook of a right are on their first rank (AtHome).
+-- The squares on the ways of king and rook are compared with the named ones, by computation over 64 squares; so
+-- castling in normal chess is legal exactly by what `MayCastle` asks (proofs/MayCastle). A right of Chess960 is sound
+-- exactly if king and rook are on their first rank, the rook on the right's side (AtHome).
 use Rattle.rules_laws.proofs.AtHome.{rights_are_at_home}
 use Rattle.rules_laws.proofs.MayCastle.{normal_castling_is_legal}
 use Rattle.rules_laws.proofs.moves.castling_needs_named_squares.Goals as goal

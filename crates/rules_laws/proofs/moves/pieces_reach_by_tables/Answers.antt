@@ -1,4 +1,5 @@
--- Knight, king and pawn attack the squares that the tables list, by computation (Reach).
+-- On any board, knights and kings, and pawns of each colour, could capture just on the squares that the tables list, by
+-- computation over all squares (Reach).
 use Rattle.rules_laws.proofs.Reach.{tables_hold}
 use Rattle.rules_laws.proofs.moves.pieces_reach_by_tables.Goals as goal
 

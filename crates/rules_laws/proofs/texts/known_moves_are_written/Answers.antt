@@ -1,4 +1,4 @@
--- Known moves in SAN and by their squares, by computation (KnownTexts).
+-- The SAN of 13 moves, and the texts of five by their squares, by computation (KnownTexts).
 use Rattle.rules_laws.proofs.KnownTexts.{moves_are_shown, moves_are_written}
 use Rattle.rules_laws.proofs.texts.known_moves_are_written.Goals as goal
 

@@ -1,4 +1,4 @@
--- Which texts denote known moves, by computation (KnownTexts).
+-- Of nine moves, that each text of one list denotes the move and none of another does, by computation (KnownTexts).
 use Rattle.rules_laws.proofs.KnownTexts.{texts_denote_moves}
 use Rattle.rules_laws.proofs.texts.known_texts_denote_moves.Goals as goal
 

@@ -1,4 +1,4 @@
--- The numbered moves of known games, by computation (KnownTexts).
+-- The moves of three games with their numbers, of two also the result, by computation (KnownTexts).
 use Rattle.rules_laws.proofs.KnownTexts.{moves_are_numbered}
 use Rattle.rules_laws.proofs.texts.moves_are_numbered.Goals as goal
 

@@ -1,6 +1,7 @@
 -- The move is pushed with its position, and then gets its entry of the index (pushed_last, with_entry of Kept). The
 -- board made it at the end of the line, so it follows there (added of Kept). The game was not over, so no verdict came
--- before the new last move (unended_more of Judged), nor full, so there is room (room of Kept).
+-- before the new last move (unended_more of Judged), nor full, so there is room (room of Kept). What the game shows
+-- then has this move more, and nothing declared (shown_more of Kept).
 use Rattle.std.proofs.Common.{◌≡◌, ◌<◌, ◌-◌, ◌++◌, ◌∷◌, [], false, is_err, length, List, refl, sym, ap, subst, ◌∙◌, arith}
 use Rattle.chess_base.specs.{declared.man.Move.Move, declared.setup.Saved.Saved}
 use Rattle.chess_game.specs.{Game.is_over, Game.is_full, ties.Buckets.IsIndexed, ties.PlayedMoves.moves_of, ties.PlayedMoves.IsKept, declared.game.PlayedMove.PlayedMove, declared.repetition.Hashed.Hashed}

@@ -1,5 +1,5 @@
--- Each move that is kept was made in the position before it, so the moves are a line (kept_line of Kept); what else
--- makes a game playable is its invariant.
+-- The game that is shown is playable: its start is sound; the moves are a line, since each that is kept was made in the
+-- position before it (kept_line of Kept); and by the invariant they are no more than the limit.
 use Rattle.std.proofs.{Common.◌≡◌, Common.length, Common.arith, lemmas.List.length-map}
 use Rattle.chess_game.specs.{ties.PlayedMoves.moves_of, declared.game.PlayedMove.PlayedMove}
 use Rattle.chess_game.proofs.Kept.{kept_line}
