@@ -1,6 +1,7 @@
--- Where faults and ends are, for the laws `faults_have_offsets` and `half_moves_have_bytes`: a fault's offset is in the
--- text and not before the offset where reading began; a game ends in the text, and has a byte for each half-move. By
--- induction on the tokens, each of which has a byte and plays at most one half-move.
+-- Where faults and ends are: a fault's offset is in the text and not before the offset where reading began
+-- (fault_in_place, a law); a game has at most as many half-moves as bytes from there to its end (half_moves_have_bytes,
+-- a law), which is in the text and after that offset (ends_in_text). By induction on the tokens: each has a byte and
+-- plays at most one half-move.
 use Rattle.std.proofs.Common.{ℕ, zero, suc, ◌+◌, ◌-◌, ◌≤◌, ◌<◌, Bool, eqb, List, [], ◌∷◌, length, drop, Option, Some, None, IfSome, Result, Ok, Err, IfOk, IfErr, sym, subst, arith, length-append, length-drop}
 use Rattle.chess_pgn.specs.{declared.read.PgnEnd.PgnEnd, declared.read.PgnFault.PgnFault, GameRead.GameRead, GameRead.tagged_variant, GameRead.pgn_read, laws.Offsets.FaultsHaveOffsets, laws.Offsets.HalfMovesHaveBytes}
 use Rattle.pgn_tokens.specs.LastTags.{tag_section}

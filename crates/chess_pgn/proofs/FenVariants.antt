@@ -1,5 +1,5 @@
--- A FEN that is read as one of a variant gives a position of that variant, so the tag `FEN` doesn't change a game's
--- variant. By a lemma about reading FENs (reading_in_variant).
+-- The tag `FEN` doesn't change a game's variant: a FEN that is read as one of a variant gives a position of it
+-- (read_variant, from reading_in_variant of chess_fen), as is the variant's initial position (initial_variant).
 use Rattle.std.proofs.Common.{◌≡◌, ℕ, List, Ok, refl, subst, IfOk}
 use Rattle.chess_base.specs.{declared.man.Variant.Variant, declared.setup.Setup.Setup, Initial.initial_setup_of}
 use Rattle.chess_fen.proofs.shared.Variants.{reading_in_variant}

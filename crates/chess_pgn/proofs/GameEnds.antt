@@ -1,6 +1,7 @@
--- For the loop of `end_after_tags`, which looks for the first token that ends a game: by its invariant (Seeks) the
--- first end from here on is the first one of all. Then: a game's end is in the text, after the offset where the game
--- begins (end_in_text), as `game_end` promises.
+-- For `game_end`. In the loop of `end_after_tags`, which looks for the first token that ends a game, the first end from
+-- here on is the first one of all (Seeks, the invariant), and this is the game's, as all its tags come before (end_is).
+-- Then: a game's end is in the text and after the offset where the game begins (end_in_text), by induction on the
+-- tokens.
 use Rattle.std.proofs.Common.{◌≡◌, ◌≤◌, ◌<◌, ℕ, zero, suc, ◌+◌, ◌-◌, Bool, true, false, cond, List, [], ◌∷◌, length, take, drop, Option, Some, None, IfSome, refl, sym, ap, subst, ◌∙◌, one-add, arith, rules, option_map, length-drop, slice_get, ◌==◌}
 use Rattle.std.specs.List.{cons_option, filter_map, prefix_len}
 use Rattle.byte_devices.specs.Bytes.{after_byte_order_mark}

@@ -1,6 +1,7 @@
--- For the loops of read.rt, which read a game token by token. Their invariants say: what was read so far, and then read
--- on from here, is what is read of the whole game (Reads and, with the next token known to be no move to play,
--- ReadsWords; ReadsNormal while tags are read; GoesOn while words are played). Each step keeps this.
+-- For the loops of read.rt and words.rt, which read a game token by token. Their invariants say: what was read so far,
+-- and then read on from here, is what is read of the whole game (Reads and, with the next token known to be no move to
+-- play, ReadsWords; ReadsNormal while tags are read; GoesOn while words are played). A lemma for each step keeps this;
+-- and a step that ends at a fault leaves nothing declared (bare_at_fault).
 use Rattle.std.proofs.Common.{◌≡◌, ℕ, ◌-◌, ◌≤◌, ◌<◌, Bool, true, false, cond, List, ◌∷◌, arith, length, get_or, take, drop, Some, None, is_some, Result, Ok, Err, refl, sym, ap, subst, ◌∙◌, Option, IsNone, OnErr, codes}
 use Rattle.chess_base.specs.{declared.man.Variant.Variant, declared.man.Variant.TheVariants.Normal, declared.setup.Setup.Setup, Initial.initial_setup, Initial.initial_setup_of}
 use Rattle.chess_game.specs.Game.{State, Seen, from_start, with_state as left_at}

@@ -1,7 +1,7 @@
 -- What is read of a game is defined by its tags (the variant, the last `FEN`, `Termination`) and then its moves
--- (`pgn_read`); the code reads token by token, with a step for each. Both give the same (reads_alike): by induction on
--- the tokens after the tags, and then on the tags. So what was read is also what any split of the text into tokens says
--- (as_said).
+-- (`pgn_read`); the code reads token by token, with a step for each. Both give the same (tokens_are, reads_alike): by
+-- induction on the tokens after the tags, and then on the tags. As a text has only one split into tokens, what any
+-- split says of the game is the same too (only_read, as_said).
 use Rattle.std.proofs.Common.{◌≡◌, ℕ, suc, ◌+◌, ◌-◌, Bool, true, false, cond, List, [], ◌∷◌, ◌++◌, length, take, drop, Option, Some, None, Result, Ok, Err, refl, sym, ap, ◌∙◌, arith, bytes_eq, take-append-drop, append-nil, ◌&&◌, ◌||◌, nat_lt, is_some, codes, map, slice_get, option_and_then}
 use Rattle.std.specs.List.{list_all, list_any, prefix_len, take_while, filter_map, cons_option, last_or}
 use Rattle.std.specs.Option.{option_map_or, unwrap_or}

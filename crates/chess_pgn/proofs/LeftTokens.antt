@@ -1,6 +1,6 @@
--- `play_words` plays the moves at an offset until the next word is no move that the game plays. Here: then the next
--- token, whatever it is, is no such move (left_at), as the contracts of the steps of `read_pgn` ask for (`IsLeft`):
--- where a word begins the next token is just that word, and any other token is no move.
+-- The steps of `read_pgn` need that a token is no move that the game plays (`IsLeft`). The first token where
+-- `play_words` stopped is none (left_at): if a word begins there, which was not played, the token is just that word,
+-- and any other token is no move. Nor is a token after which tags may come (tags_left), by its kind.
 use Rattle.std.proofs.Common.{◌≡◌, ℕ, ◌<◌, ◌≤◌, ◌-◌, Bool, true, false, List, [], ◌∷◌, ◌++◌, length, take, drop, refl, sym, ap, subst, ◌∙◌, arith}
 use Rattle.std.specs.List.{list_all, take_while}
 use Rattle.std.proofs.{lemmas.Bool.and_parts, lemmas.List.take_rest}

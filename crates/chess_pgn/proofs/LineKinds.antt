@@ -1,6 +1,6 @@
--- The definition of a line's first fault (`line_fault`) goes by the kinds of tokens. The same by what the first token
--- does, as the code asks it: is it a variation, does it end the line with `)`, or is it a move, passed over or a fault
--- (line_by_kind).
+-- The definition of a line's first fault (`line_fault`) has a case for each kind of token. It is the same by what the
+-- first token does, as the code asks it: is it a variation, does it end the line with `)`, or is it a move, passed over
+-- or a fault (line_by_kind). By cases of the token.
 use Rattle.std.proofs.Common.{◌≡◌, ℕ, ◌-◌, Bool, true, false, cond, List, ◌∷◌, length, Option, Some, None, is_some, Ok, Err, refl, ◌||◌}
 use Rattle.std.specs.{List.list_all, Option.option_map_or, Option.option_or}
 use Rattle.byte_devices.specs.Bytes.{is_digit}

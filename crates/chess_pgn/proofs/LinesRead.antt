@@ -1,6 +1,7 @@
--- For the loop of `read_line`, which reads a line of moves (a game's own, or a variation's) and calls itself for the
--- variations in it. By its invariant (LineReads) the first fault from here on, in the position reached, is the line's
--- first fault. Last: each fault is in the text (fault_within).
+-- For `read_line`, which reads a line of moves (a game's own, or a variation's) and calls itself for the variations in
+-- it. By its loop's invariant (LineReads) the first fault from here on, in the position reached, is the line's first
+-- fault; a lemma for each thing that a token does keeps it or ends the loop. Last: each fault is in the text
+-- (fault_within), by induction on how many variations may be open, and on the tokens.
 use Rattle.std.proofs.Common.{◌≡◌, ℕ, zero, suc, ◌+◌, ◌-◌, ◌≤◌, Bool, true, false, cond, List, [], ◌∷◌, length, Option, Some, None, IfSome, IfErr, Result, Ok, Err, refl, sym, ap, subst, ◌∙◌, inl, inr, arith}
 use Rattle.std.specs.{Option.option_map_or, Option.option_or, Result.result_err}
 use Rattle.chess_base.specs.{declared.man.Move.Move, declared.setup.Setup.Setup, Moves.after}

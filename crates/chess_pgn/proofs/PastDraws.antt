@@ -1,7 +1,7 @@
 -- For `read_past_draws`: what is read of a game if fivefold repetition and 75 moves (the draws of 2014) end none.
--- Without a move after such a draw it is what `read_pgn` read (read_alike). Otherwise the moves are read again from
--- where the tags end, and the game begins anew in the position after each move: only the position then decides whether
--- a verdict ends it (anew_alike).
+-- Without a move after such a draw it is what `read_pgn` read (read_alike), by induction on the tokens. Otherwise
+-- reading the moves again from where the tags end gives it (anew_read, anew_failed): there the game begins anew in the
+-- position after each move (Again), and only the position decides which other verdict ends it (anew_alike).
 use Rattle.std.proofs.Common.{◌≡◌, ◌<◌, ◌≤◌, ℕ, suc, ◌+◌, ◌-◌, ◌==◌, nat_le, nat_lt, Bool, true, false, cond, ◌||◌, List, [], ◌∷◌, ◌++◌, length, drop, map, slice_get, codes, Option, Some, None, is_some, is_none, option_and_then, Result, Ok, Err, refl, sym, ap, subst, ◌∙◌, arith, length-append, if◌then◌else◌}
 use Rattle.std.specs.List.{cons_option, filter_map, list_all}
 use Rattle.std.specs.Option.{option_map_or, unwrap_or}

@@ -1,5 +1,6 @@
 -- The kinds of steps that reading a token may take (StepIs), so that other proofs go through these and not through all
--- tokens: each step is one of them (step_is). And a property of a word's step, by the word's kind (word_cases).
+-- tokens: each step is one of them (step_is), by cases of the token. And what holds of a word's step for each kind of
+-- word holds of it for any word (word_cases).
 use Rattle.std.proofs.Common.{◌≡◌, ℕ, ◌+◌, ◌-◌, ◌≤◌, ◌<◌, Bool, true, false, List, [], ◌∷◌, length, Option, Result, Ok, Err, refl, sym, subst, arith, rules, bytes_eq, codes, is_some, nat_lt, if◌then◌else◌}
 use Rattle.chess_base.specs.{declared.fen_fault.FenFault.FenFault, declared.man.Move.Move as Played, declared.setup.Setup.Setup}
 use Rattle.chess_fen.specs.Reading.{fen_reading_as}

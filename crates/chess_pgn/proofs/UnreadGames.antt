@@ -1,5 +1,5 @@
--- A game with a fault at what can't be read has no end: the split of the text stops there, and no token before ends the
--- game, since reading went on after each.
+-- A game with a fault at what can't be read has no end (unread_have_no_end, a law): the split of the text stops there,
+-- and no token before ends the game, since reading continued after each. By induction on the tokens.
 use Rattle.std.proofs.Common.{◌≡◌, ℕ, ◌+◌, ◌-◌, ◌<◌, ◌≤◌, Bool, true, false, cond, not, List, [], ◌∷◌, ◌++◌, length, take, drop, Option, Some, None, Result, Ok, Err, IfErr, refl, sym, ap, subst, ◌∙◌, arith, bytes_eq, codes, if◌then◌else◌, is_some, nat_lt, option_map, slice_get, length-append, length-drop}
 use Rattle.std.specs.List.{cons_option, filter_map, list_all, list_any}
 use Rattle.std.proofs.lemmas.Bool.{and_parts}

@@ -10,8 +10,8 @@ pub fn faults_have_offsets()
     ensures { FaultsHaveOffsets }
 {}
 
-/// States a law and does nothing: a game that is read has no more half-moves than its text has bytes, from the offset
-/// where reading begins to the end of its outcome.
+/// States a law and does nothing: a game that is read without a fault has no more half-moves than its text has bytes,
+/// from the offset where reading begins to the end of its outcome.
 pub fn half_moves_have_bytes()
     ensures { HalfMovesHaveBytes }
 {}

@@ -275,7 +275,8 @@ fn read_moves<B: Board>(
     }
 }
 
-// Reads a game again at which `read_pgn` stopped at a move after one of the two draws of 2014; `game` is as it left it.
+// Reads a game again in which `read_pgn` stopped at a move after one of the two draws of 2014, as if these ended no
+// game. `game` is as `read_pgn` left it; then it is at the position in which reading stopped.
 fn read_anew<B: Board>(
     text: &[u8],
     at: usize,

@@ -1,5 +1,7 @@
--- Texts of games without a move, by computation: the text is split, read, and the result compared. Only one thing is
--- not computed: that a word has the shape of a move, which is a law of chess_text_laws (ShapedByText).
+-- The small texts of the law `empty_games_are_read`, most of games without a move, by computation: the text is split,
+-- read, and the result compared. Only one thing is not computed: that `O-O` has the shape of a move, which follows from
+-- a law of chess_text_laws (ShapedByText, a premise). So after a mate, where no move is legal, this word is a move
+-- after the end of the game (AfterEnd).
 use Rattle.std.proofs.Common.{◌≡◌, ◌∙◌, ℕ, inl, Bool, true, false, List, [], ◌∷◌, Option, None, Some, Result, Ok, Err, is_some, slice_get, codes, if◌then◌else◌, refl, ap}
 use Rattle.std.specs.List.{filter, filter_map, last_or}
 use Rattle.std.specs.Option.{option_map_or, unwrap_or}

@@ -1,6 +1,6 @@
--- Tokens put into lines that are as full as they can be: the lines hold the tokens in order, a line has at most 79
--- bytes, and would have more with the next line's first token (are_filled): by induction on the tokens. No other lines
--- are so (only_filled). A game's text has its moves in such lines (written).
+-- Tokens put into lines: the lines hold the tokens in order, a line has at most 79 bytes, and would have more with the
+-- next line's first token (are_filled), by induction on the tokens. No other lines are so (only_filled, from only_lines
+-- of pgn_writer). So a game's text that is written has its moves in such lines (written).
 use Rattle.std.proofs.Common.{◌≡◌, ℕ, ◌<◌, ◌≤◌, Bool, true, false, cond, leb, List, [], ◌∷◌, ◌++◌, length, map, refl, sym, ap, subst, ◌∙◌, append_assoc, arith, flat_map, leb-true, length-append}
 use Rattle.std.proofs.lemmas.Bool.Decides.{nat_tests}
 use Rattle.chess_game.specs.Game.{State, IsPlayable}

@@ -1,6 +1,6 @@
--- Without a fault each move of each variation is legal where it is made: by induction over how deep variations are
--- nested (variation_legal), and within one, over its tokens (line_legal). A move that is read is legal by a law
--- (ReadMovesAreLegal).
+-- If no variation of a game has a fault, each move of the game and of its variations is legal where it is made
+-- (variations_legal): by induction over how deep variations are nested (variation_legal), and within a line, over its
+-- tokens (line_legal). A move that is read is legal by a law (ReadMovesAreLegal, a premise).
 use Rattle.std.proofs.Common.{◌≡◌, ℕ, zero, suc, ◌+◌, ◌-◌, Bool, true, false, cond, List, [], ◌∷◌, length, Option, Some, None, Result, Ok, Err, refl, sym, ap, ◌∙◌, ◌||◌, is_some}
 use Rattle.std.specs.{List.list_all, List.list_any, Option.option_map_or, Option.option_or}
 use Rattle.byte_devices.specs.Bytes.{is_digit}

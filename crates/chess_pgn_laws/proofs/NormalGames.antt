@@ -1,5 +1,5 @@
--- Games of normal chess, and texts that name no variant, are written and read as if there were no Chess960: once the
--- variant is replaced by `Normal`, the definitions are the same by computation.
+-- Games of normal chess are written, and texts that name no variant are read, as if there were no Chess960
+-- (normal_kept): once the variant is replaced by `Normal`, the definitions are the same by computation.
 use Rattle.std.proofs.Common.{◌≡◌, ℕ, Bool, cond, List, ◌++◌, length, drop, Option, None, Ok, refl, ap, ◌∙◌, codes, slice_get}
 use Rattle.std.specs.{List.filter_map, List.list_all, Option.option_map_or, Result.result_err}
 use Rattle.chess_base.specs.{declared.man.Variant.Variant, declared.man.Variant.TheVariants.Normal, declared.setup.Setup.Setup, Initial.initial_setup, Initial.initial_setup_of}

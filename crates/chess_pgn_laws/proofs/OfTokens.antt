@@ -1,6 +1,6 @@
--- A game that is read is that of its tokens. The state of the reader after some tokens is what these tokens say
--- (IsSoFar: start, moves, termination). By cases of the next token (word, tag, anything else) the reader's step keeps
--- that, or stops rightly (Leaves); of_tokens goes through the tokens.
+-- A game that is read is that of its first tokens (game_of_tokens, a law). The state of the reader after some tokens is
+-- what these tokens say (IsSoFar: start, moves, termination). By cases of the next token (word, tag, anything else) the
+-- reader's step keeps that, or stops rightly (Leaves); of_tokens is the induction on the tokens.
 use mathlib.Core.Bool.{or-true, or-false, or_assoc}
 use Rattle.std.proofs.Common.{◌≡◌, ℕ, ◌-◌, ◌<◌, Bool, true, false, not, cond, ◌||◌, List, [], ◌∷◌, ◌++◌, length, Option, Some, None, Result, Ok, Err, refl, sym, ap, subst, ◌∙◌, append_assoc, append-nil, bytes_eq, codes, is_some, nat_lt}
 use Rattle.std.specs.List.{list_any}

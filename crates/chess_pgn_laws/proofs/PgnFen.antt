@@ -1,5 +1,6 @@
--- A FEN that is written can be a tag's string as it is: it has only printable ASCII, without quotes and backslashes, so
--- none of its bytes ends a line or has to be escaped.
+-- A FEN that is written of a sound position can be a tag's string as it is (fen_bare): it has only printable ASCII,
+-- without quotes and backslashes, so none of its bytes ends a line or has to be escaped. By a lemma about the bytes of
+-- FENs.
 use Rattle.std.proofs.Common.{◌≡◌, ◌≢◌, ℕ, ◌≤◌, true, false, eqb, List, [], ◌∷◌, refl, arith}
 use Rattle.std.specs.List.{list_all}
 use Rattle.std.proofs.{lemmas.Bool.and_from, lemmas.Bool.Decides.nat_tests}

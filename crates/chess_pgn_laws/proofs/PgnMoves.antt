@@ -1,6 +1,6 @@
 -- Reading the moves of a game's text, which are in lines of at most 79 bytes, plays them one after another
--- (moves_read). A token is followed by a space or a line feed (filled_ends), so it is read whole; where the lines break
--- doesn't matter.
+-- (moves_read): by induction on the moves. A token is followed by a space or a line feed (filled_ends), so it is read
+-- whole; where the lines break doesn't matter.
 use Rattle.std.proofs.Common.{◌≡◌, ℕ, suc, ◌+◌, ◌-◌, ◌<◌, ◌≤◌, Bool, true, false, not, ◌&&◌, cond, eqb, leb, List, [], ◌∷◌, ◌++◌, length, take, Option, None, refl, sym, ap, ◌∙◌, append_assoc, append-nil, arith, leb-true, length-append, codes, decimal}
 use Rattle.std.proofs.{Math.Seq.take-append_seam, lemmas.Bool.Decides.nat_tests}
 use Rattle.chess_base.specs.{declared.man.Colour.Colour, declared.man.Colour.TheVariants.White, declared.man.Colour.TheVariants.Black, declared.man.Move.Move, declared.setup.Setup.Setup, Moves.after, Sound.IsSound}

@@ -1,5 +1,7 @@
--- Tags as they are written, `[Name "text"]`: each line is one token with the name and the text in it. Quotes and
--- backslashes of the text are escaped, so the string ends at its own quote.
+-- Tags as they are written, `[Name "text"]`: each line is one token, with the name and the escaped text in it
+-- (tag_token). Quotes and backslashes of the text are escaped, so the string ends at its own quote (string_written), by
+-- induction on the text; a text without them isn't changed by escaping (bare_escaped). The texts of a game's tags are
+-- in one line (tag_text_in_line).
 use Rattle.std.proofs.Common.{◌≡◌, ℕ, ◌≤◌, Bool, true, false, not, cond, ◌&&◌, ◌||◌, eqb, List, [], ◌∷◌, ◌++◌, length, drop, Some, refl, sym, ap, ◌∙◌, append_assoc, arith}
 use Rattle.std.specs.List.{list_all, prefix_len, take_while, AllByRecursion}
 use Rattle.std.proofs.{lemmas.Bool.and_parts, lemmas.Bool.and_from, lemmas.Bool.or_parts, lemmas.Bool.Decides.nat_tests}

@@ -1,6 +1,7 @@
--- The whole text of a game is read back: its tags line by line (tags_read), then its moves (text_read, from PgnMoves),
--- from the offset where it begins, whatever comes before (read_after). The laws of the outcome, the tag Result and the
--- tag Variant follow (pgn_law, result_law, variant_law).
+-- The whole text of a game is read back (pgn_law): its tags line by line (tags_read), then its moves (text_read, from
+-- PgnMoves), from the offset where it begins, whatever comes before (read_after). And of the tags that are read, the
+-- last `Result` names the game's outcome (result_law), and the last `Variant` a known variant (variant_law), by
+-- TagTexts.
 use Rattle.std.proofs.Common.{◌≡◌, ℕ, suc, ◌+◌, ◌-◌, ◌<◌, ◌≤◌, Bool, true, false, eqb, List, [], ◌∷◌, ◌++◌, length, drop, Option, Some, None, refl, sym, ap, subst, ◌∙◌, append_assoc, arith, length-append, drop_at, codes, not, Ok, is_some, if◌then◌else◌, option_and_then}
 use Rattle.std.proofs.{lemmas.Bool.Decides.nat_tests, lemmas.Slice.Eq.bytes_eq-Decides}
 use Rattle.chess_base.specs.{declared.man.Variant.Variant, declared.man.Variant.TheVariants.Normal, declared.man.Variant.TheVariants.Fischerandom, declared.setup.Setup.Setup, Initial.initial_setup, Initial.initial_setup_of, Options.list_if, Sound.IsSound}

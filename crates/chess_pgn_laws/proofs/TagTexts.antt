@@ -1,6 +1,7 @@
--- What the tags of a written game's text say. The text's tags are listed with their strings (tags_of); reading the
--- text, the last tag with a name says what this list says (text_says), since the tokens after the tags stop the search
--- (moves_stop).
+-- What the tags of a written game's text say. The text's tags are listed with their strings (tags_of), of which the
+-- last `Result` is the outcome and the last `Variant` the variant's name, if any (result_string, variant_string).
+-- Reading the text, the last tag with a name says what this list says (text_says), by induction on the list, since the
+-- tokens after the tags stop the search (moves_stop).
 use Rattle.std.proofs.Common.{◌≡◌, ℕ, ◌<◌, ◌≤◌, Bool, true, false, cond, eqb, List, [], ◌∷◌, ◌++◌, length, map, Option, Some, None, refl, ap, subst, ◌∙◌, append_assoc, arith, bytes_eq, leb-true, codes, decimal, not}
 use Rattle.std.specs.{List.list_all, List.AllByRecursion, Option.option_map, Option.option_or}
 use Rattle.chess_base.specs.{declared.man.Colour.Colour, declared.man.Colour.TheVariants.White, declared.man.Colour.TheVariants.Black, declared.man.Move.Move, declared.man.Variant.Variant, declared.man.Variant.TheVariants.Normal, declared.man.Variant.TheVariants.Fischerandom, declared.setup.Setup.Setup, Moves.after, Options.list_if, Sound.IsSound}

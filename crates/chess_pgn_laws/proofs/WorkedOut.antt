@@ -1,5 +1,6 @@
--- Small texts worked out: how `tokens_from` splits them, what is read of a small game, and how its tokens are laid out.
--- Where the board is asked for a verdict or a move, a lemma takes the answer as a premise.
+-- The small texts of the law `texts_are_worked_out`, by computation: how they are split into tokens (texts_are_split),
+-- what is read of them (texts_are_read), and how tokens are laid out (texts_are_laid_out). Where the board is asked for
+-- a verdict or a move, a lemma takes the answer as a premise.
 use Rattle.std.proofs.Common.{◌≡◌, ℕ, suc, Bool, true, false, cond, List, [], ◌∷◌, ◌++◌, length, Option, None, Some, refl, sym, ap, ◌∙◌, append_assoc, arith, length-append, codes, is_some, nat_lt}
 use Rattle.std.proofs.lemmas.List.Concat.{flat_map-append}
 use Rattle.std.specs.Option.{option_or}

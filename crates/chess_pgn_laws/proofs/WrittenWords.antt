@@ -1,5 +1,7 @@
--- Words as they are written in a game (its numbers, and its moves in SAN): each is one token where a byte of no word
--- follows (word_token), and is of its own kind.
+-- Words as they are written in a game. A word is one token where a byte of no word follows (word_token), by the run of
+-- bytes that may be in words. A number has a byte and only digits (decimal_some, decimal_digits), and its bytes, as
+-- those of SAN, may be in words (number_bytes, san_bytes_in_word); a word that begins with a letter is a move
+-- (move_kind).
 use Rattle.std.proofs.Common.{◌≡◌, ℕ, ◌<◌, ◌≤◌, Bool, true, false, ◌&&◌, ◌||◌, eqb, List, [], ◌∷◌, ◌++◌, length, drop, refl, ap, ◌∙◌, inl, inr, arith, decimal, nat_le}
 use Rattle.std.proofs.{lemmas.Bool.and_parts, lemmas.Bool.and_from, lemmas.Bool.or_cases, lemmas.Bool.Decides.nat_tests, lemmas.Fmt.decimal_is_IsNumeral, lemmas.Str.Parse.digit_from_value}
 use Rattle.std.specs.{List.list_all, List.prefix_len, List.take_while, Str.Parse.AllDigits}

@@ -52,8 +52,8 @@ pub record TextsAreSplit : Type 0 where
 abbrev pub endless : List ℕ → ℕ → List (ℕ × Token)
 endless text at = (4, Word (codes "e4")) ∷ (1, Skip) ∷ []
 
--- the first fault of a variation of `e4 (` whose moves begin in the position `p`, if so many variations may be open,
--- this one included
+-- the first fault of a variation of `e4 (` whose moves begin in the position `p`, if so many variations (`most`) may be
+-- open, this one included
 abbrev pub fault_with : ℕ → Setup → Option PgnFault
 fault_with most p = variation_fault endless most (codes "e4 (") p 3
 
@@ -66,7 +66,7 @@ pub record VariationsAreCounted : Type 0 where
       → fault_with (suc most) p ≡ option_or (fault_with most p) None
   pub too_many : (p : Setup) → fault_with 0 p ≡ Some (record { kind = TooLong; offset = 3 })
 
--- examples of what is read of texts, in games of at most one half-move
+-- examples of what is read of texts, in games of at most one half-move, and of how deep variations may be nested
 pub record TextsAreRead : Type 0 where
   -- one move, where the initial position has no verdict and `e4` denotes the move m in it
   pub game : (m : Move) → verdict_now (from_start (initial_setup_of Normal)) ≡ None

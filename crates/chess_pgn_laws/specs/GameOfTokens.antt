@@ -59,16 +59,17 @@ is_fen name = bytes_eq name (codes "FEN")
 
 -- ---- what can be taken
 
--- whether reading goes on after a token: it is skipped, a word but no outcome, or a tag before the first number or move
--- (`begun`: one came before), where a FEN must denote a sound position of the variant `v`
+-- whether reading may go on after a token: it is skipped, a word but no outcome (`AreReadAs` says whether its move can
+-- be played), or a tag before the first number or move (`begun`: one came before), where a FEN must denote a sound
+-- position of the variant `v`
 abbrev pub can_be_taken : Variant → Bool → Token → Bool
 can_be_taken v begun Skip = true
 can_be_taken v begun (Tag name text to_end) = not begun && (not (is_fen name) || is_ok (fen_reading_as v text))
 can_be_taken v begun (Word word) = not (is_outcome (word_kind word))
 can_be_taken v begun _ = false
 
--- whether reading goes on after each of these tokens; `v`: the variant of a FEN, `begun`: a number or move came before
--- them
+-- whether reading may go on after each of these tokens (`can_be_taken`); `v`: the variant of a FEN, `begun`: a number
+-- or move came before them
 abbrev pub can_all_be_taken : Variant → Bool → List (ℕ × Token) → Bool
 can_all_be_taken v begun [] = true
 can_all_be_taken v begun (t ∷ ts) = can_be_taken v begun t.1 && can_all_be_taken v (begun || begins t.1) ts
@@ -145,8 +146,8 @@ move_fault draws limit s (reads.Move m) = unless_closed draws limit s None
 move_fault draws limit s reads.Ambiguous = unless_closed draws limit s (Some AmbiguousMove)
 move_fault draws limit s reads.NoSuch = unless_closed draws limit s (Some IllegalMove)
 
--- why a word of this kind can't be taken in the game `s`; `None` if it can. `draws`: whether fivefold repetition and 75
--- moves end the game; `limit`: its most half-moves
+-- why a word of this kind can't be taken in the game `s`; `None` if it can, or if it is an outcome. `draws`: whether
+-- fivefold repetition and 75 moves end the game; `limit`: its most half-moves
 abbrev pub word_fault : Bool → ℕ → State → List ℕ → WordKind → Option PgnFaultKind
 word_fault draws limit s word Move = move_fault draws limit s (reading (current s) word)
 word_fault draws limit s word _ = None
@@ -160,9 +161,9 @@ abbrev pub fen_fault : Result Setup FenFault → Option PgnFaultKind
 fen_fault (Ok start) = None
 fen_fault (Err fault) = Some (BadFen fault)
 
--- why a token can't be taken in the game `s` of the variant `v`, with the fault's offset; `None` if it can. `draws`:
--- whether fivefold repetition and 75 moves end the game; `limit`: its most half-moves; `total`: the text's length;
--- `to_end`: how many bytes are left at the token; `begun`: a number or move came before it
+-- why a token can't be taken in the game `s` of the variant `v`, with the fault's offset; `None` if it can, or if it is
+-- an outcome's word. `draws`: whether fivefold repetition and 75 moves end the game; `limit`: its most half-moves;
+-- `total`: the text's length; `to_end`: how many bytes are left at the token; `begun`: a number or move came before it
 abbrev pub token_fault : Bool → ℕ → ℕ → Variant → Bool → State → ℕ → Token → Option PgnFault
 token_fault draws limit total v begun s to_end Skip = None
 token_fault draws limit total v begun s to_end (Tag name text string) =
@@ -201,9 +202,9 @@ StopsAt draws limit total v taken (t ∷ ts) s (Ok (Some e)) =
 StopsAt draws limit total v taken (t ∷ ts) s (Err f) =
     (s.declared ≡ None) × (token_fault draws limit total v (list_any (λ u. begins u.1) taken) s t.0 t.1 ≡ Some f)
 
--- the game read (`r`) is that of the first tokens, `taken`: they say its start (in the variant `v`) and its moves, and
--- reading stopped after them as it must. `draws`: whether fivefold repetition and 75 moves end it; `limit`: its most
--- half-moves; `total`: the text's length
+-- the game read (`r`) is that of the first of `tokens`, those `taken`: they say its start (in the variant `v`) and its
+-- moves, and reading stopped after them as it must (`StopsAt`). `draws`: whether fivefold repetition and 75 moves end
+-- it; `limit`: its most half-moves; `total`: the text's length
 pub record IsOfTokens (draws : Bool) (limit total : ℕ) (v : Variant) (tokens : List (ℕ × Token))
     (r : GameRead) : Type 0 where
   pub taken : List (ℕ × Token)

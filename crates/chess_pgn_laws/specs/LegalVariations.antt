@@ -45,8 +45,8 @@ pub data IsLegalLine (tokens : ℕ → List (ℕ × Token)) (text : List ℕ) : 
       → IsLegalLine tokens text (Some start) p more
       → IsLegalLine tokens text (Some start) p ((left, token) ∷ more)
 
--- if a game has a variation and no fault in its variations, its moves, from the offset `at` of its text on, are a legal
--- line
+-- if a game that starts in the position `start` has a variation, and no fault in its variations, its line, from the
+-- offset `at` of its text on, is legal with its variations. `tokens` gives the tokens of a text from an offset on
 abbrev pub VariationsAreLegal : Type 0
 VariationsAreLegal = (tokens : List ℕ → ℕ → List (ℕ × Token)) (text : List ℕ) (start : Setup) (at : ℕ)
     → has_variation text (tokens text at) ≡ true → variations_fault tokens text start at ≡ None

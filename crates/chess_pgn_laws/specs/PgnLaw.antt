@@ -35,8 +35,9 @@ pub record IsReadBack (s : State) (termination : Termination) (text_end : ℕ) (
   -- after it come the end of its line and an empty line
   pub two_before_end : offset + 2 ≡ text_end
 
--- the text that is written of a playable game `s` of at most `limit` half-moves, without line prefixes, is read back as
--- that game, whatever text comes before and after it. `draws`: whether fivefold repetition and 75 moves end a game
+-- the text that is written of a playable game `s` of at most `limit` half-moves, without line prefixes, and with tags
+-- of at most 60 bytes of printable ASCII each, is read back as that game, whatever text comes before and after it.
+-- `draws`: whether fivefold repetition and 75 moves end a game
 abbrev pub PgnIsReadBack : Type 0
 PgnIsReadBack =
     (draws : Bool) → (limit : ℕ) → (tags : Tags) → (s : State) → (before after : List ℕ) → AreTagTexts tags
@@ -44,8 +45,8 @@ PgnIsReadBack =
     → IsReadBack s (termination_of tags.ended (outcome_now s)) (length (before ++ pgn [] tags s))
     (pgn_read draws limit (before ++ pgn [] tags s ++ after) (length before))
 
--- whatever text comes before and after the text that is written of a playable game: of the tags that are read there as
--- the game's own, the last tag Result exists and names the game's outcome
+-- whatever text comes before and after the text that is written so of a playable game: of the tags that are read there
+-- as the game's own, the last tag Result exists and names the game's outcome
 abbrev pub ResultIsWritten : Type 0
 ResultIsWritten =
     (limit : ℕ) → (tags : Tags) → (s : State) → (before after : List ℕ) → AreTagTexts tags

@@ -28,8 +28,8 @@ use chess_text_laws::texts_have_parts;
 
 /// States a law and does nothing: if a game is written without a prefix, and its text is read where it begins, the
 /// start, the moves, the outcome and the termination that are read are the written ones, whatever text comes before and
-/// after it. The offset returned is right after the outcome. The reader must allow at least as many half-moves as the
-/// game has.
+/// after it. The offset returned is right after the outcome. The texts of tags must have at most 60 bytes of printable
+/// ASCII, and the reader must allow at least as many half-moves as the game has.
 ///
 /// A result that was declared is read without its comment, since the text doesn't contain the comment. Tags such as
 /// `White` are not kept. The last tag `Result` of the text names the game's outcome (`result`), and the last tag
@@ -77,9 +77,10 @@ pub fn a_game_is_tags_and_moves()
 {}
 
 /// States a law and does nothing: a game that is read is made of the first tokens of its text. It begins from the
-/// position of their last tag `FEN`, or from the initial position if they have none. Its moves are those that their
-/// words denote, each in the position after the moves before it. Reading stops at the text's end or at the next token:
-/// an outcome, or one that can't be taken, such as an illegal move. The end or the fault returned is the one there.
+/// position of their last tag `FEN`, or from its variant's initial position if they have none. Its moves are those that
+/// their words denote, each in the position after the moves before it. Reading stops at the text's end or at the next
+/// token: an outcome, or one that can't be taken, such as an illegal move. The end or the fault returned is the one
+/// there.
 pub fn games_are_of_tokens()
     ensures { GamesAreOfTokens }
 {}
@@ -111,8 +112,10 @@ pub fn games_are_laid_out()
         → text ≡ pgn prefix t s }
 {}
 
-/// States a law and does nothing: small examples of how the definitions split texts into tokens, what they read of
-/// them, and how they lay out games. Among them is how many variations may be open at once: 64.
+/// States a law and does nothing: small examples of what the definitions mean. `split`: six texts as tokens, for tags,
+/// strings, `%` lines, comments and variations. `read`: what is read of five texts (a game of one move, no game, a
+/// missing result, a bad tag, a bad FEN), and how many variations may be open at once: 64. `laid_out`: a game of one
+/// move, each line with a prefix, and two tokens that need two lines.
 pub fn texts_are_worked_out()
     ensures split { TextsAreSplit }
     ensures read { TextsAreRead }

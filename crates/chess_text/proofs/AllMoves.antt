@@ -1,5 +1,6 @@
--- A legal move that passes a test is found in the list of all legal moves (any-move); if it alone passes, filtering the
--- list by the test leaves just this move (only-move).
+-- A legal move that passes a test is found in the list of all legal moves (any-move); if no other legal move passes,
+-- filtering that list by the test leaves just this move (only-move). The list is made by start, end and promotion, so
+-- the proofs go through these: nothing is kept from another start, to another end or with another promotion.
 use Rattle.std.proofs.Common.{◌≡◌, ◌≢◌, ℕ, zero, suc, ◌<◌, ◌≤◌, inl, inr, Bool, true, false, ◌&&◌, cond, Option, Some, None, List, [], ◌∷◌, map, refl, sym, ap, ◌∙◌, arith, IfSome, append-nil}
 use Rattle.std.proofs.lemmas.Bool.{cases_Bool, cases_lt, and_parts, and_from, false_from_ne_true}
 use Rattle.std.specs.List.{filter, flat_map, list_any}

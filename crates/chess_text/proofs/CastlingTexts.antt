@@ -1,4 +1,5 @@
--- A text that names castling to a side can't be read as parts, and names no other side: shown for each such text.
+-- A text that names castling to a side (`O-O`, `0-0`, `O-O-O`, `0-0-0`) can't be read as parts, and names no other side
+-- (castling_from_name): by computation for each of the four texts.
 use Rattle.std.proofs.Common.{◌≡◌, ℕ, inl, inr, Bool, true, false, List, [], ◌∷◌, None, refl, codes, bytes_eq}
 use Rattle.std.proofs.{lemmas.Bool.or_cases, lemmas.Slice.Eq.bytes_eq-Decides}
 use Rattle.std.specs.List.{list_any}

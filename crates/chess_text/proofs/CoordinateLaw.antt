@@ -1,5 +1,7 @@
--- The coordinate text of a legal move denotes this move and no other legal one; that of a move that isn't legal denotes
--- no legal move: a move that the text's parts fit has both squares and the promotion that the text names.
+-- The coordinate text of a legal move denotes this move and no other legal one (coordinate_alone), has a move's shape
+-- (coordinate_shape), and so is read as the move (coordinate_read); that of a move that is not legal, without a
+-- promotion, denotes no legal move (coordinate_of_none). For a move that the text's parts fit has both squares and the
+-- promotion that the text names.
 use Rattle.std.proofs.Common.{◌≡◌, ◌+◌, ◌<◌, true, false, not, List, [], ◌∷◌, Option, Some, None, refl, sym, ap, ◌∙◌, arith, IsTrue, filter}
 use Rattle.std.proofs.{lemmas.Bool.Decides.nat_tests, lemmas.Bool.eq-eqb, lemmas.Bool.both_ways, lemmas.Bool.false_from_ne_true}
 use Rattle.chess_base.specs.{declared.man.Kind.Kind, declared.man.Move.Move, declared.setup.Setup.Setup, Coordinates.small_letter_text, Coordinates.coordinate, shared.Parts.optional, Moves.is_legal, MoveList.moves, Squares.file, Squares.rank}

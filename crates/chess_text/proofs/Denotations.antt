@@ -1,7 +1,7 @@
 -- A text denotes a described move (`denotes_described` looks it up in a list of texts) exactly if it names the move's
 -- castling or is the text of parts that fit the move: `is_denoted_so` and `denoted_so`. `denotes_is` says the same of
--- the parts as the reader finds them. The proofs use lists of this file (`texts_of`), equal to those of the definition
--- (`texts_alike`).
+-- the parts as the reader finds them. By cases of the form in which parts fit, over lists of this file (`texts_of`),
+-- equal to those of the definition (`texts_alike`). `facts`: what parts that fit say of squares and promotion.
 use Rattle.std.proofs.Common.{◌≡◌, ℕ, ◌<◌, inl, inr, Bool, true, false, not, ◌||◌, ◌==◌, Option, Some, None, List, [], ◌∷◌, ◌++◌, append_assoc, refl, sym, ap, subst, ◌∙◌, arith, if◌then◌else◌, bytes_eq, IfSome, is_some, is_none}
 use Rattle.std.specs.{List.AllByRecursion, List.list_any, List.flat_map, Option.option_map_or}
 use Rattle.std.proofs.{lemmas.Bool.Decides.nat_tests, lemmas.List.Folds.list_any-append, lemmas.Slice.Eq.bytes_eq-Decides}

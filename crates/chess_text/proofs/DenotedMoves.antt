@@ -1,5 +1,6 @@
--- All moves that a form denotes end on one square (`end_square`): parts name it, and castling to a side has one. So no
--- move that ends elsewhere need be tried.
+-- All moves that a form denotes end on one square, `end_square` (denoted_ends): parts name it, and castling to a side
+-- has one. So the legal moves that it denotes are found by trying, from each square, only the moves to that one
+-- (all_denoted): any other move in the list of all moves isn't denoted.
 use mathlib.Core.Bool.{and_comm}
 use Rattle.std.proofs.Common.{◌≡◌, ◌≢◌, ℕ, ◌≤◌, Bool, true, false, ◌&&◌, Option, Some, None, map, refl, sym, ap, ◌∙◌, arith, filter, flat_map}
 use Rattle.std.proofs.{lemmas.Bool.and_parts, lemmas.Bool.false_from_ne_true, lemmas.List.Elements.filter_agree, Math.Path.fun_ext}

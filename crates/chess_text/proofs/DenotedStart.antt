@@ -1,5 +1,6 @@
 -- Where parts can mean only one kind of piece (`one_kind`), the short test `is_denoted_of` answers the same as the full
--- test `is_denoted` for each legal move of such a piece to their end square without a promotion (denoted_of).
+-- test `is_denoted` for each legal move of such a piece to their end square without a promotion (denoted_of): by cases,
+-- parts with a letter and parts of a pawn's move.
 use mathlib.Core.Bool.{and-false}
 use Rattle.std.proofs.Common.{◌≡◌, ℕ, ◌<◌, true, false, not, ◌&&◌, cond, Option, Some, None, is_none, refl, sym, ap, ◌∙◌, arith, is_some}
 use Rattle.std.proofs.{lemmas.Bool.Decides.nat_tests, lemmas.Bool.and_parts, lemmas.Bool.eq-eqb, lemmas.Bool.false_from_ne_true}

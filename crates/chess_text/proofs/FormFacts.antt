@@ -1,6 +1,7 @@
 -- The form that a text is read as (`form_of`: castling, parts or none) decides whether it has a move's shape
 -- (shape-form), which legal moves it denotes (denotes-read), and so its reading in a position (reading_denoted,
--- reading_nothing). What is read is legal (reads_legal).
+-- reading_nothing): by cases of castling's texts and of the parts read. Marks at the end don't change the reading
+-- (reading_unmarked). What is read is legal (reads_legal), since only legal moves are filtered.
 use Rattle.std.proofs.Common.{◌≡◌, ℕ, inl, inr, Bool, true, false, ◌&&◌, ◌||◌, cond, List, [], ◌∷◌, Option, Some, None, is_some, refl, sym, ap, ◌∙◌, arith, bytes_eq}
 use Rattle.std.proofs.{lemmas.Bool.and_parts, lemmas.Bool.cases_Bool, lemmas.List.Elements.filter_agree}
 use Rattle.std.specs.{List.list_any, List.filter, Option.option_map_or}

@@ -1,5 +1,7 @@
--- What holds of each legal move: its squares are on the board, a piece of the side on move is on its start, and it goes
--- as this piece moves; only a pawn promotes, and castling is the king's.
+-- What each legal move has (legal_move): its squares are on the board, a piece of the side on move is on its start, and
+-- it goes as this piece moves (IsMove); only a pawn promotes (unpromoted), and castling is the king's (castling_says).
+-- By cases of the piece, from the tests in the definition of a legal move. So a legal move has a description, by that
+-- piece (described_is).
 use Rattle.std.proofs.Common.{◌≡◌, ℕ, ◌<◌, Bool, true, false, ◌&&◌, ◌||◌, not, cond, Option, Some, None, is_none, refl, sym, ap, ◌∙◌, ◌==◌, nat_lt, IfSome, option_map}
 use Rattle.std.proofs.lemmas.Bool.{and_parts, ltb-true, eqb-true}
 use Rattle.chess_base.specs.{declared.man.CastlingSide.CastlingSide, declared.man.Colour.Colour, declared.man.Kind.Kind, declared.man.Variant.Variant, declared.man.Variant.TheVariants.Normal, declared.man.Variant.TheVariants.Fischerandom, declared.man.Man.Man, declared.man.Move.Move, declared.setup.Setup.Setup, Attacks.attacks, Attacks.is_in_check, shared.Splits.castles_or_moves, shared.Splits.names_castling, declared.castling.Castle.Castle, Squares.rank}

@@ -1,4 +1,6 @@
--- An element of a list is in the lists that are made from it; and what holds of each element carries over to them.
+-- Facts of lists that are made from a list by `map`, `flat_map` or `++`, by induction on it. If x is in a list (IsIn),
+-- what is made of x is in the list made from it (in-append-left and so on). If each element has a property
+-- (AllByRecursion), so has each element of the list made (each-append and so on), and what a test finds has it (found).
 use Rattle.std.proofs.Common.{◌≡◌, ℕ, zero, suc, ◌<◌, inl, inr, Bool, true, ◌||◌, List, [], ◌∷◌, ◌++◌, map, Option, refl, ap, ◌∙◌, arith, IfSome}
 use Rattle.std.specs.List.{AllByRecursion, list_any, flat_map}
 use Rattle.std.proofs.{lemmas.Bool.or_cases, lemmas.Bool.or_left, lemmas.Bool.or_right, lemmas.List.Folds.list_any-append}

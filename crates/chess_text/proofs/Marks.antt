@@ -1,4 +1,6 @@
--- A mark (+ # ! ?) at the end of a text is dropped, and a text whose last byte is no mark stays as it is.
+-- Marks (+ # ! ?) at the end of a text, which `unmarked` drops: a text whose last byte is no mark stays as it is
+-- (unmarked-solid), and one mark more at the end changes nothing of what is left (unmarked-marked). Both by how many
+-- marks are at the end (`suffix_len`).
 use Rattle.std.proofs.Common.{◌≡◌, ℕ, ◌+◌, ◌-◌, ◌≤◌, true, false, List, [], ◌∷◌, ◌++◌, length, get_or, take, refl, sym, ap, ◌∙◌, arith, length-append}
 use Rattle.std.proofs.{Math.Seq.take-length, Math.Seq.take-append_seam, lemmas.List.take-append-le, lemmas.List.Sums.suffix_len-take_yes, lemmas.List.Sums.suffix_len-take_no, lemmas.List.Sums.suffix_len-le-length}
 use Rattle.std.specs.List.{suffix_len}

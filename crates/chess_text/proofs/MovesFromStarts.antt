@@ -1,5 +1,7 @@
--- Where parts denote moves of one kind of piece alone, without a promotion, these are the moves that the parts fit from
--- the squares where a piece of that kind has a legal move to the end square (by_starts).
+-- Where parts can mean moves of only one kind of piece, without a promotion, the moves that they denote are those that
+-- the short test `is_denoted_of` picks of the legal moves of such pieces to the end square, one from each of their
+-- starts (by_starts). For a move that they denote is of this kind and without a promotion (of_kind), so of the moves
+-- from a start only one may be denoted.
 use Rattle.std.proofs.Common.{◌≡◌, ℕ, zero, suc, ◌+◌, ◌<◌, inl, inr, Bool, true, false, ◌&&◌, cond, Option, Some, None, List, [], ◌∷◌, refl, sym, ap, subst, ◌∙◌, arith, is_some}
 use Rattle.std.specs.List.{filter, flat_map, range_with_len}
 use Rattle.std.proofs.lemmas.Bool.Decides.{nat_tests}

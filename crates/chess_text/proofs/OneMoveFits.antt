@@ -1,6 +1,7 @@
 -- A text with a move's shape that denotes one legal move alone is read as this move (read_alone). What the text of
 -- parts denotes follows from the parts (denoted_parts, shape_parts), what the text of castling denotes from its side
--- (denoted_castling, shape_castling).
+-- (denoted_castling, shape_castling). Last, for laws: when a text denotes a legal move (denotes_move), and when moves
+-- or their promotions are the same (move_is, promotes-same).
 use Rattle.std.proofs.Common.{◌≡◌, ℕ, Bool, true, false, ◌||◌, List, Option, Some, None, refl, sym, ap, ◌∙◌, IfSome, option_map}
 use Rattle.std.proofs.lemmas.Bool.{false_from_ne_true}
 use Rattle.chess_base.specs.{declared.man.CastlingSide.CastlingSide, declared.man.CastlingSide.TheVariants.KingSide, declared.man.CastlingSide.TheVariants.QueenSide, declared.man.Kind.Kind, declared.man.Move.Move, declared.setup.Setup.Setup, Moves.is_legal}

@@ -1,5 +1,7 @@
--- Two advances of pawns to one square begin on one square (same_advance); so do two captures on one square from one
--- file (same_ahead). So a pawn's move is fixed by its end square and, if it captures, its start file.
+-- Two advances of pawns to one square begin on one square (same_advance), and so do two captures on one square from one
+-- file (same_ahead): by arithmetic with squares' numbers. So a pawn's start is fixed by the end square and, for a
+-- capture, the start file. Captures go one rank ahead (captures_ahead); other moves are advances (advances_without),
+-- which stay on their file (advances_on_file).
 use Rattle.std.proofs.Common.{◌≡◌, ◌≢◌, ℕ, ◌<◌, ◌≤◌, inl, inr, Bool, true, false, ◌||◌, Option, Some, None, is_none, refl, sym, ap, ◌∙◌, arith, ◌==◌}
 use Rattle.std.proofs.{lemmas.Bool.Decides.nat_tests, lemmas.Bool.or_cases, lemmas.Bool.both_ways, lemmas.Bool.eqb-true}
 use Rattle.std.specs.Int.{abs_diff}

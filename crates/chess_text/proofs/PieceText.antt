@@ -1,5 +1,5 @@
--- The SAN of a move that is not castling, without its mark, is the text of its parts (piece_written): shown for the
--- start square, then for a pawn's move and for another piece's.
+-- The SAN of a move that is not castling, without its mark, is the text of its parts (piece_written): for the start
+-- square by cases of what is written of it, then for a pawn's move and for another piece's.
 use Rattle.std.proofs.Common.{◌≡◌, ℕ, Bool, true, false, not, cond, List, [], ◌∷◌, ◌++◌, Option, Some, None, refl, ap, ◌∙◌, if◌then◌else◌, option_map}
 use Rattle.chess_base.specs.{declared.man.Kind.Kind, declared.man.Kind.TheVariants.Pawn, shared.Parts.optional, Letters.square_text, Men.same_kind, Squares.file, Squares.rank, Options.list_if}
 use Rattle.byte_devices.specs.Bytes.{byte}

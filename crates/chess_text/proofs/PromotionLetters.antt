@@ -1,4 +1,6 @@
--- The letter of a promotion is that of a piece in FEN: a capital letter is White's, a small one Black's.
+-- The letter of a promotion is that of a piece in FEN, where a capital letter is White's and a small one Black's: if a
+-- piece has the letter, it is read as the promotion to this piece (promotion_found), and if none has, as no promotion
+-- (no_promotion). By cases of colour and kind.
 use Rattle.std.proofs.Common.{◌≡◌, ℕ, Bool, true, false, cond, eqb, List, [], ◌∷◌, Option, Some, None, refl, sym, ap, ◌∙◌, arith, find, ◌==◌}
 use Rattle.std.proofs.lemmas.Bool.Decides.{nat_tests}
 use Rattle.chess_base.specs.{declared.man.Colour.Colour, declared.man.Kind.Kind, declared.man.Man.Man}

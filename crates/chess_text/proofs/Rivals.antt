@@ -1,5 +1,7 @@
 -- The rivals of a move of a piece other than a pawn begin on the squares from which another piece of its kind has a
--- legal move to its end square: one move from each, since such a move is no promotion.
+-- legal move to its end square (rivals): one move from each, since such a move is no promotion. Then, of this set of
+-- squares: whether one is on a file or rank (some_met), and what is written of the start beside them, by cases of that
+-- (alone, beside_others, file_written).
 use mathlib.Core.Bool.{and-true, and-false, not-not}
 use Rattle.std.proofs.Common.{◌≡◌, ◌≢◌, ℕ, zero, suc, ◌<◌, ◌+◌, ◌≤◌, inl, inr, Bool, true, false, not, ◌&&◌, ◌==◌, if◌then◌else◌, cond, Some, None, List, [], ◌∷◌, ◌++◌, map, refl, sym, ap, ◌∙◌, arith, subst}
 use Rattle.std.proofs.lemmas.Bool.{cases_Bool, and_parts, false_from_ne_true, eqb-true, eq-eqb}

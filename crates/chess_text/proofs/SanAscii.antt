@@ -1,4 +1,5 @@
--- The SAN of a legal move is ASCII, since each of its bytes is, and so it is text.
+-- The SAN of a legal move of a sound position is ASCII, since each of its bytes is one that SAN may have (san_bytes of
+-- SanLaw), and these are below 128.
 use Rattle.std.proofs.Common.{◌≡◌, ℕ, zero, suc, ◌<◌, true, List, [], ◌∷◌, arith, IsTrue, IsAscii}
 use Rattle.std.specs.List.{list_all}
 use Rattle.std.proofs.{lemmas.Bool.and_parts, lemmas.Bool.Decides.nat_tests}

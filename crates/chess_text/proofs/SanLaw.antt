@@ -1,6 +1,7 @@
--- The SAN of a legal move of a sound position denotes it alone (san_alone), so it is read as it (san_read); and it is a
--- word of two to seven bytes (san_short, san_bytes, san_letter). For castling by its side; for pawns and other pieces
--- the parts of the text are shown to fit this move and no other legal one.
+-- The SAN of a legal move of a sound position denotes it alone (san_alone) and has a move's shape (san_shape), so it is
+-- read as it (san_read); it is two to seven bytes of SAN, the first a letter (san_short, san_bytes, san_letter). For
+-- castling by its side (castling_law, for any text of castling); for pawns and other pieces the parts of the text are
+-- shown to fit this move and no other legal one.
 use Rattle.std.proofs.Common.{◌≡◌, ℕ, ◌<◌, ◌≤◌, Bool, true, false, ◌&&◌, List, ◌++◌, length, Option, Some, None, refl, sym, ap, subst, ◌∙◌, arith, ◌==◌, IfSome, IsTrue}
 use Rattle.std.specs.{Option.option_map, Option.option_map_or, List.list_any, List.list_all, List.filter}
 use Rattle.std.proofs.lemmas.Bool.Decides.{nat_tests}

@@ -1,5 +1,6 @@
--- What the writer of SAN puts together, the text without `+` or `#` and then the mark, is the SAN of the definition: a
--- legal move has a description, with a promotion only for a pawn.
+-- What the writer of SAN puts together, the unmarked text and then the mark of the position after the move, is the SAN
+-- of the definition (san_marked). A legal move has a description (always_described), with a promotion only for a pawn
+-- (legal_promotes): by what each legal move has (legal_move of Legal).
 use Rattle.std.proofs.Common.{◌≡◌, ℕ, List, ◌++◌, Some, None, refl, ap, ◌∙◌, IsTrue}
 use Rattle.chess_base.specs.{declared.man.Kind.Kind, declared.man.Move.Move, declared.setup.Setup.Setup, Moves.is_legal, Moves.after, shared.Parts.optional, MoveList.moves}
 use Rattle.chess_base.specs.declared.man.Kind.TheVariants.{King, Queen, Rook, Bishop, Knight, Pawn}

@@ -1,5 +1,5 @@
 -- The result of reading a text shows whether the text has a move's shape: it has none exactly if the result is
--- `NotAMove`.
+-- `NotAMove` (read_shape), since any list of legal moves, also the empty one, is read as another result.
 use Rattle.std.proofs.Common.{◌≡◌, ℕ, Bool, true, false, List, [], ◌∷◌, refl, if◌then◌else◌, filter}
 use Rattle.chess_base.specs.{declared.man.Move.Move, declared.setup.Setup.Setup, MoveList.moves}
 use Rattle.chess_text.specs.Moves.{one_of, reading, has_shape, shape, denotes}

@@ -1,4 +1,6 @@
--- The text of parts ends with a digit or a letter, so a mark after it is all that is dropped.
+-- Neither the text of parts nor a text of castling has marks to drop (bare_parts, bare_castling), since its last byte
+-- is a digit or a letter. And of any text without marks, followed by the mark for check or mate if it is due, dropping
+-- marks leaves the text (bare_marked): by cases of the mark.
 use Rattle.std.proofs.Common.{◌≡◌, ℕ, ◌+◌, ◌<◌, Bool, true, false, List, [], ◌∷◌, ◌++◌, length, Option, Some, None, refl, sym, ap, ◌∙◌, arith, append_assoc, append-nil, ◌==◌, if◌then◌else◌}
 use Rattle.std.proofs.lemmas.Bool.Decides.{nat_tests}
 use Rattle.chess_base.specs.{declared.man.CastlingSide.CastlingSide, declared.man.CastlingSide.TheVariants.KingSide, declared.man.CastlingSide.TheVariants.QueenSide, declared.man.Kind.Kind, declared.setup.Setup.Setup, Attacks.is_in_check, shared.Parts.optional, Letters.white_letter, Letters.square_text, MoveList.moves, Squares.file, Squares.rank, Options.list_if}

@@ -1,4 +1,5 @@
--- A letter in a move's text names the kind of piece with that capital letter, but never the pawn.
+-- A letter in a move's text names the kind of piece with that capital letter, but never the pawn (lettered): by cases
+-- of the tests for the six letters, one after another.
 use Rattle.std.proofs.Common.{◌≡◌, ℕ, Bool, true, false, cond, eqb, Option, Some, None, refl, sym, ap, ◌∙◌}
 use Rattle.chess_base.specs.{declared.man.Kind.Kind, Letters.kind_with_letter}
 use Rattle.chess_base.specs.declared.man.Kind.TheVariants.{King, Queen, Rook, Bishop, Knight, Pawn}

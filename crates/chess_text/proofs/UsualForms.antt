@@ -1,5 +1,6 @@
--- A text of a usual shape (`e4`, `Nf3`, `exd5`, `Nxd5`, `Nbd2`, perhaps with one mark) is the text of the parts that
--- `usual_at` reads from it in one step; so `parts_at`, which goes part by part, reads the same.
+-- A text of a usual shape (`e4`, `Nf3`, `exd5`, `Nxd5`, `Nbd2`, perhaps with one mark: one_mark) is the text of the
+-- parts that `usual_at` reads from it in one step; so `parts_at`, which goes part by part, reads the same, and the form
+-- is these parts (usual_form), which say the kind of piece (usual_one_kind). By cases of the text's length and bytes.
 use Rattle.std.proofs.Common.{◌≡◌, ℕ, suc, ◌+◌, ◌-◌, ◌*◌, ◌<◌, ◌≤◌, Bool, true, false, cond, eqb, List, [], ◌∷◌, ◌++◌, length, take, get_or, Option, Some, None, refl, sym, ap, subst, ◌∙◌, arith, IfSome, option_map}
 use Rattle.std.proofs.{Math.Seq.take-suc, Math.Seq.take-length, lemmas.Bool.Decides.nat_tests}
 use Rattle.chess_base.specs.{shared.Parts.optional, declared.man.CastlingSide.TheVariants.KingSide, declared.man.CastlingSide.TheVariants.QueenSide, declared.man.Kind.Kind, Options.list_if, Letters.is_file_letter}

@@ -1,4 +1,7 @@
--- A move's text as it is written is a word of at most seven bytes of SAN, the first of them a letter.
+-- The bytes of SAN: the text of possible parts and that of castling have only bytes that SAN may have (parts_bytes,
+-- castling_bytes); and a text of two to six such bytes, the first a letter (IsWord, as that of castling is:
+-- castling_word), has two to seven with the mark for check or mate (marked_word). Byte by byte, and by cases of the
+-- mark.
 use Rattle.std.proofs.Common.{◌≡◌, ℕ, ◌+◌, ◌<◌, ◌≤◌, Bool, true, false, List, [], ◌∷◌, ◌++◌, length, Option, Some, None, refl, arith, length-append, ◌==◌, IfSome, if◌then◌else◌}
 use Rattle.std.proofs.{lemmas.List.Folds.list_all-append, lemmas.Bool.Decides.nat_tests}
 use Rattle.std.specs.List.{list_all}

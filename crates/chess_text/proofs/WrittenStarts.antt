@@ -1,5 +1,6 @@
--- What SAN writes of a start square (nothing, file, rank or both) fits this square, and none of the start squares from
--- which it must be distinguished: none of them is on the file or rank that is written, and both name one square.
+-- What SAN writes of a start square (nothing, file, rank or both) fits this square (written_admits), and none of the
+-- other start squares (start_is_apart). By cases of what is written: no other start is on a file or rank that is
+-- written without the other, and file and rank name one square.
 use Rattle.std.proofs.Common.{◌≡◌, ◌≢◌, ℕ, Bool, true, false, not, cond, List, [], ◌∷◌, refl, ap, arith, eqb-true, eq-eqb}
 use Rattle.chess_base.specs.Squares.{file, rank}
 use Rattle.chess_text.specs.shared.Fitting.{admits}

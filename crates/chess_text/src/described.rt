@@ -173,7 +173,7 @@ pub(crate) fn parts_fit(parts: &Parts, d: &Described) -> bool
 }
 
 // Whether the parts can be those of a move's text: a letter and no promotion (`Nf3`), or no letter and either a start
-// file (`exd5`) or an end square alone (`e4`). The parts of `xd5` can't.
+// file (`exd5`, `e2e4`) or neither start rank nor `x` (`e4`, `e8=Q`). The parts of `xd5` can't.
 #[tactic(auto, unfolding(crate::specs::shared::Fitting::is_form))]
 pub(crate) fn is_form(parts: &Parts) -> bool
     ensures { result ≡ is_form parts.now }

@@ -352,9 +352,9 @@ fn denoted_usual<B: Board>(board: &B, parts: &Parts) -> Reading
 }
 
 // What coordinates, such as `e2e4` or `e7e8q`, are read as, with one mark after them or none: they denote only the move
-// between their squares. `None` for any other text, and for a promotion that is not legal. In a session nearly all
-// texts are coordinates. With these read like other texts, in loops over squares and promotions, the workload `matches`
-// took 1.05 times as long.
+// between their squares. `None` for any other text, and for a promotion that is not legal: `read_any_move` then reads
+// the text by its form. In a session nearly all texts are coordinates. With these read like other texts, in loops over
+// squares and promotions, the workload `matches` took 1.05 times as long.
 fn read_coordinates<B: Board>(board: &B, text: &[u8]) -> Option<Reading>
     ensures { IfSome result (λ r. reading (B.position board.now) text.now ≡ r) }
 {
@@ -373,8 +373,8 @@ fn read_coordinates<B: Board>(board: &B, text: &[u8]) -> Option<Reading>
     }
 }
 
-// Reads a text of any shape as a move of the board's position. In PGN most texts are of a usual shape, so this is not
-// inlined.
+// Reads a text of any shape as a move of the board's position. In PGN most texts are of a usual shape, for which
+// `read_move` doesn't call this, so it is not inlined.
 #[inline(never)]
 fn read_any_move<B: Board>(board: &B, text: &[u8]) -> Reading
     ensures { result ≡ reading (B.position board.now) text.now }

@@ -1,6 +1,7 @@
 -- A text denotes a described move exactly if it names the castling that the move is, or is the text of parts that fit
 -- the move (denoted_by_text); it has a move's shape exactly if it names castling or is the text of parts that can be a
--- move's (shaped_by_text). Both follow from Denotations and ShapeByForm of chess_text.
+-- move's (shaped_by_text). Both join lemmas of chess_text: of Denotations (`denotes_described`), of ShapeByForm
+-- (`has_form`) and of Grammar (the parts of a text).
 use Rattle.std.proofs.Common.{◌≡◌, ℕ, inl, inr, IsTrue, ◌↔◌, true, ◌||◌, List, sym, ◌∙◌}
 use Rattle.std.proofs.lemmas.Bool.{or_cases}
 use Rattle.chess_base.specs.{declared.man.CastlingSide.CastlingSide, declared.man.CastlingSide.TheVariants.KingSide, declared.man.CastlingSide.TheVariants.QueenSide}

@@ -1,5 +1,6 @@
 -- The text by which lists of moves show a legal move (`shown_move`: coordinates, or in Chess960 `O-O` or `O-O-O` for
--- castling) has a move's shape, denotes this move alone of the legal ones, and so is read as it.
+-- castling) denotes this move alone of the legal ones (shown_alone), has a move's shape (shown_shape), and so is read
+-- as it (shown_read). By cases of variant and castling, from the lemmas for coordinates and for castling of chess_text.
 use Rattle.std.proofs.Common.{◌≡◌, Option, Some, None, refl, IsTrue, if◌then◌else◌}
 use Rattle.std.specs.Option.{option_map_or}
 use Rattle.chess_base.specs.{declared.man.CastlingSide.CastlingSide, declared.man.Move.Move, declared.man.Variant.Variant, declared.man.Variant.TheVariants.Normal, declared.man.Variant.TheVariants.Fischerandom, declared.setup.Setup.Setup, Coordinates.coordinate, Castling.castling, Moves.is_legal, Sound.IsSound}

@@ -1,4 +1,5 @@
--- The laws of the texts, each as one statement.
+-- The laws of moves' texts (SAN, coordinates, the texts in lists of moves, and the parts of any text), each as one
+-- statement.
 use Rattle.std.specs.Prelude.{◌≡◌, ℕ, ◌⊎◌, ◌↔◌, List, Some, IsTrue}
 use Rattle.chess_base.specs.Coordinates.{coordinate}
 use Rattle.chess_base.specs.declared.man.CastlingSide.{CastlingSide}

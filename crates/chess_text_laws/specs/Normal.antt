@@ -64,8 +64,8 @@ normal_san p m =
     option_map_or (λ d. option_map_or castling_text d.castles (piece_text (normal_rival_starts p d) d)
     ++ normal_check_mark (normal_after p m)) (normal_described p m) []
 
--- in position p of normal chess the definitions for both variants agree with those of this file, and lists of moves
--- show each move by its squares
+-- in position p the definitions for both variants agree with those of this file, in the list of legal moves, what each
+-- text is read as and each move's SAN; and lists of moves show each move by its coordinates
 pub record NormalIsKept (p : Setup) : Type 0 where
   pub moves : moves p ≡ normal_moves p
   pub reading : (text : List ℕ) → reading p text ≡ normal_reading p text

@@ -1,6 +1,8 @@
 -- Texts that are added to a buffer one after the other. The writer has taken the front of all the bytes, and the buffer
--- holds the others (TookSome); or the writer failed, and took only a beginning of them (CutShort). `w`, `x` and `y` are
--- what the buffer holds before, between and after the steps, `t` and `u` the texts.
+-- holds the others (TookSome); or the writer failed, and took only a beginning of them (CutShort). This carries over
+-- from parts to the whole: two texts (added_more, added_break), a list's (parts_more, parts_break), one put straight to
+-- the writer (put_after), and the buffer's rest (finished). The buffer holds `w`, `x`, `y` before, between and after
+-- the steps.
 use Rattle.std.proofs.Common.{◌≡◌, ℕ, ◌+◌, ◌<◌, List, [], ◌++◌, length, get_or, take, drop, Result, Ok, Err, IsErr, sym, ap, ◌∙◌, append_assoc, append-nil, flat_map, take-append-drop}
 use Rattle.std.proofs.lemmas.List.Concat.{flat_map-append}
 use Rattle.byte_devices.specs.Devices.{OutputState, CutShort, Puts}

@@ -1,6 +1,7 @@
 -- The text of a game is put in parts: tags and empty line, moves, empty line; and these in parts of their own, down to
--- a move's number and SAN. HasParts says that a text has three parts. If the first or second can't be put, the writer
--- took a beginning of the whole (first_broke, second_broke); with the third the whole is put, or breaks (third_put).
+-- a move's number and SAN. HasParts says that a text has three parts (such as game_is, tags_are). If the first or
+-- second can't be put, the writer took a beginning of the whole (first_broke, second_broke); with the third the whole
+-- is put, or breaks (third_put). Moves are put one after another: move i after the first i (moves_put, moves_broke).
 use Rattle.std.proofs.Common.{◌≡◌, ℕ, zero, suc, ◌+◌, Bool, true, false, eqb, List, [], ◌∷◌, ◌++◌, take, slice_get, Some, Result, refl, sym, ap, subst, ◌∙◌, append_assoc, append-nil, add-one, arith, IsTrue, flat_map}
 use Rattle.std.proofs.{lemmas.List.Concat.flat_map-append, lemmas.Bool.Decides.nat_tests}
 use Rattle.chess_base.specs.{declared.man.Move.Move, declared.man.Variant.Variant, declared.setup.Setup.Setup, Moves.is_legal, Moves.after}

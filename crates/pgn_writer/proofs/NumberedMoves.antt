@@ -1,6 +1,6 @@
 -- The tokens of a game are defined as a first number such as `12...` if Black begins, then the moves with White's
--- numbers, then the outcome. The code writes them move by move, where only the text's first move may have `12...`; here
--- both are the same tokens (game_numbered).
+-- numbers, then the outcome. The code writes them move by move, where only the text's first move may have `12...`; both
+-- are the same tokens (game_numbered), by induction on the moves.
 use Rattle.std.proofs.Common.{◌≡◌, ℕ, true, false, ◌&&◌, ◌==◌, List, [], ◌∷◌, ◌++◌, length, refl, sym, ap, ◌∙◌, append_assoc, arith, codes, decimal, not}
 use Rattle.std.proofs.lemmas.Bool.Decides.{nat_tests}
 use Rattle.chess_base.specs.{declared.man.Colour.Colour, declared.man.Colour.TheVariants.White, declared.man.Colour.TheVariants.Black, declared.man.Move.Move, declared.setup.Setup.Setup, Men.same_colour, Moves.after, Options.list_if}

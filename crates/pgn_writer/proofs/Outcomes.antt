@@ -1,5 +1,6 @@
--- For `outcome_of`, which calls `try_from` of Outcome: `try_from` returns the outcome that is written as the word, and
--- an error for other words.
+-- For `outcome_of`, which calls `try_from` of Outcome: if `try_from` returns the outcome that is written as the word,
+-- and an error for other words, then this is what the definition `outcome_of` finds (outcome_parsed). By cases of the
+-- outcome.
 use Rattle.std.proofs.Common.{◌≡◌, ℕ, Bool, true, false, List, refl, sym, subst, bytes_eq, Some, Result, Ok, Err}
 use Rattle.std.proofs.lemmas.Slice.Eq.{bytes_eq-Decides}
 use Rattle.std.specs.Result.{result_ok}

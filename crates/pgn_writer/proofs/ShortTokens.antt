@@ -1,5 +1,5 @@
--- Each token of a game has 1 to 79 bytes, so it fits into a line: an outcome, a number of a playable game (at most
--- 999999) and the SAN of a legal move.
+-- Each token of a playable game has 1 to 79 bytes, so it fits into a line (game_is_short): the outcome, a number (at
+-- most 999999, and its dots) and the SAN of a legal move (two to seven bytes, by san_short). By induction on the moves.
 use Rattle.std.proofs.Common.{◌≡◌, append_assoc, ℕ, ◌+◌, ◌≤◌, Bool, true, false, List, [], ◌∷◌, ◌++◌, length, arith, leb-true, length-append, codes, decimal}
 use Rattle.std.proofs.lemmas.Fmt.{length-decimal-le}
 use Rattle.chess_base.specs.{declared.man.Colour.Colour, declared.man.Colour.TheVariants.White, declared.man.Colour.TheVariants.Black, declared.man.Move.Move, declared.setup.Setup.Setup, Moves.after, Sound.IsSound}

@@ -63,8 +63,9 @@ pub fn write_pgn<B: Board, W: Output>(
     lines.finish()
 }
 
-// Writes a game's whole text to `lines`: tags, an empty line, moves with the outcome, an empty line. Its end may still
-// wait in the buffer: `write_pgn` calls `finish`. The moves are played on the board `scratch` for their SAN.
+// Writes a game's whole text to `lines`, where no line is begun: tags, an empty line, moves with the outcome, an empty
+// line. Its end may still wait in the buffer: `write_pgn` calls `finish`. The moves are played on the board `scratch`
+// for their SAN.
 //
 // `Adds`: what waited in the buffer, followed by the text (`pgn`), are the bytes that the writer took, followed by
 // those that now wait.

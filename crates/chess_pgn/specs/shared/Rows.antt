@@ -62,7 +62,8 @@ abbrev pub with_fault : State → PgnFault → GameRead
 with_fault s fault = record { state = s; answer = Err fault }
 
 -- what is read of the game `s` from a token on, by what that token does: `later` says what is read from the next one
--- on, `termination` is what the tag Termination names
+-- on, `termination` is what the tag Termination names. An outcome that ends the game is declared, unless it is `*` or
+-- the board has a verdict (`declared_after`)
 abbrev pub after_row : Option Termination → State → Row → (State → GameRead) → GameRead
 after_row termination s (Goes_on next) later = later next
 after_row termination s (Ends o end) later = record {

@@ -37,8 +37,8 @@ is_at_past_draw s (Err fault) = is_past_draw fault.kind s
 abbrev pub stops_past_draw : GameRead → Bool
 stops_past_draw r = is_at_past_draw r.state r.answer
 
--- what code returned of a game's moves is what was read of them (`r`), and the game `g` began anew at the position in
--- which reading stopped
+-- what code returned of a game's moves (the end and the number of half-moves, or a fault) is what was read of them
+-- (`r`), and the game `g` began anew at the position in which reading stopped
 abbrev pub IsReadAgain : GameRead → Result (PgnEnd × ℕ) PgnFault → State → Type 0
 IsReadAgain r (Ok p) g = (r.answer ≡ Ok (Some p.0)) × (p.1 ≡ length r.state.moves)
     × (g ≡ from_start (current r.state))

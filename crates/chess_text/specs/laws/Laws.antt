@@ -1,4 +1,5 @@
--- The laws of the texts that code calls, each as one statement; and what laws say of texts and their parts.
+-- The laws of moves' texts that code calls, each as one statement; and the words in which laws, also those of
+-- chess_text_laws, state what texts and their parts are.
 use Rattle.std.specs.Prelude.{◌≡◌, ℕ, ◌≤◌, ◌==◌, Bool, false, ◌||◌, ◌⊎◌, List, [], ◌∷◌, length, Some, IsTrue, ◌<◌, IfSome}
 use Rattle.byte_devices.specs.Bytes.{is_digit, is_letter, byte}
 use Rattle.std.specs.List.{list_all}

@@ -12,7 +12,7 @@ use Rattle.pgn_writer.specs.Terminations.{termination_text}
 use Rattle.pgn_writer.specs.Written.{tag_line}
 use Rattle.chess_text.specs.San.{is_fischerandom}
 
--- the lines of the seven tags that each game has, for a game with outcome `o`
+-- the lines of the seven tags that each game has: six texts of `t`, and the outcome `o`
 abbrev pub roster_lines : Tags → Outcome → List (List ℕ)
 roster_lines t o =
     tag_line (codes "Event") t.event ∷ tag_line (codes "Site") t.site ∷ tag_line (codes "Date") t.date
@@ -23,7 +23,8 @@ roster_lines t o =
 abbrev pub fen_lines : Setup → List (List ℕ)
 fen_lines start = tag_line (codes "FEN") (fen start) ∷ tag_line (codes "SetUp") (codes "1") ∷ []
 
--- the lines of the tags FEN and SetUp for a game of variant `v`: none for normal chess from the initial position
+-- the lines of the tags FEN and SetUp for a game of variant `v` from this start: none for normal chess from the initial
+-- position
 abbrev pub start_lines_in : Variant → Setup → List (List ℕ)
 start_lines_in v start = list_if (is_fischerandom v || not (is_initial start)) (fen_lines start)
 
@@ -33,6 +34,6 @@ last_lines v termination =
     tag_line (codes "Termination") (termination_text termination)
     ∷ list_if (is_fischerandom v) (tag_line (codes "Variant") (codes "fischerandom") ∷ [])
 
--- the lines of the tags after the seven that each game has
+-- the lines of the tags after the seven that each game has, for a game from this start that ended so
 abbrev pub further_lines : Setup → Termination → List (List ℕ)
 further_lines start termination = start_lines_in start.variant start ++ last_lines start.variant termination

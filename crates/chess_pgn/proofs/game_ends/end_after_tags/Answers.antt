@@ -1,5 +1,6 @@
--- A token that doesn't end the game keeps the invariant (GameEnds.seeks_on). One that does is the end (GameEnds.found);
--- at the text's end and at what can't be read there is none (GameEnds.none_to_end, none_readable).
+-- A token that doesn't end the game keeps the invariant (GameEnds.seeks_on). One that does is the first end
+-- (GameEnds.found); at the text's end and at what can't be read there is none (none_to_end, none_readable). Where all
+-- tags of a game come before `at`, this is the game's end (end_is).
 use Rattle.std.proofs.Common.{◌≡◌, None, Some, refl, sym, ◌∙◌, rules}
 use Rattle.pgn_tokens.specs.Seen.{token_seen}
 use Rattle.chess_pgn.proofs.GameEnds.{seeks_on, found, none_to_end, none_readable, end_is}

@@ -1,4 +1,5 @@
--- The end is that of the text's split (read_split), and in the text (GameEnds.end_in_text).
+-- The clause `end`: what `end_after_tags` returns is the game's end by the text's split into tokens (read_split).
+-- `further` and `within`: a game's end is after `at` and in the text (from GameEnds.end_in_text).
 use Rattle.byte_devices.specs.Bytes.{after_byte_order_mark}
 use Rattle.pgn_tokens.specs.Tokens.{tokens_from}
 use Rattle.chess_pgn.proofs.GameEnds.{is_later, is_within}

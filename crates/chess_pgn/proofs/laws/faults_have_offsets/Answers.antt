@@ -1,4 +1,5 @@
--- A fault's offset is in the text and not before where reading began (FaultPlaces.fault_in_place).
+-- A fault's offset is in the text and not before where reading began: by induction on the tokens
+-- (FaultPlaces.fault_in_place).
 use Rattle.chess_pgn.proofs.FaultPlaces.{fault_in_place}
 use Rattle.chess_pgn.proofs.laws.faults_have_offsets.Goals as goal
 

@@ -1,4 +1,5 @@
--- No token of such a game ends it (UnreadGames.unread_have_no_end).
+-- The split of the text stops at what can't be read, and no token before ends the game, since reading continued after
+-- each (UnreadGames.unread_have_no_end).
 use Rattle.chess_pgn.proofs.UnreadGames.{unread_have_no_end}
 use Rattle.chess_pgn.proofs.laws.unreadable_games_have_no_end.Goals as goal
 

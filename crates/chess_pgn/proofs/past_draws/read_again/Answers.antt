@@ -1,6 +1,6 @@
--- The code's test says whether reading stopped at a move after one of the two draws of 2014 (PastDraws.is_past). If it
--- did, `read_anew` is called as its contract asks; if not, the same is read without these draws
--- (PastDraws.alike_answer).
+-- The code's test (`is_past_draw`) says whether reading stopped at a move after one of the two draws of 2014
+-- (PastDraws.is_past). If it did, `read_anew` is called as its contract asks; if not, the same answer and game are read
+-- without these draws (PastDraws.alike_answer, stands_alike).
 use Rattle.std.proofs.Common.{◌∙◌, Err, sym, true}
 use Rattle.chess_game.specs.declared.game.TheConstants.{MOST_MOVES}
 use Rattle.chess_pgn.specs.GameRead.{pgn_read}

@@ -1,5 +1,6 @@
--- A token keeps the invariant if it changes nothing (PastDraws.passed) or is a move (PastDraws.moved). The termination
--- marker, a fault, the text's end and what can't be read each end the game by one lemma of PastDraws.
+-- A token keeps the invariant if it changes nothing (PastDraws.passed) or is a move (moved). The termination marker
+-- (ended), a fault (stopped), the text's end (at_end) and what can't be read (unread) each end the game as reading with
+-- its moves would.
 use Rattle.std.proofs.Common.{◌∙◌, ap, false, length}
 use Rattle.std.proofs.lemmas.Result.{err_from_is_err_and}
 use Rattle.chess_game.specs.Game.{Seen, from_start}

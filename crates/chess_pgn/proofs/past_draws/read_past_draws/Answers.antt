@@ -1,6 +1,6 @@
--- If `read_pgn` found a game without a fault, or none, the same is read without the two draws of 2014
--- (PastDraws.alike_answer). After a fault `read_again` answers, whose contract asks for what `read_pgn` has read
--- (PastDraws.read_of_most).
+-- If `read_pgn` found a game without a fault, or none, the same answer and game are read without the two draws of 2014
+-- (PastDraws.alike_answer, stands_alike). After a fault `read_again` answers, whose contract asks for what `read_pgn`
+-- has read (PastDraws.read_of_most).
 use Rattle.std.proofs.Common.{◌∙◌, Err, None, Ok, Some, ap, length, refl, sym}
 use Rattle.chess_game.specs.Game.{State}
 use Rattle.chess_pgn.proofs.PastDraws.{alike_answer, read_of_most, stands_alike}

@@ -1,4 +1,5 @@
--- The definition counts a word's offset back from the text's end, the code from its front: both are the same.
+-- The definition counts a word's offset back from the text's end, the code from its front: both are the same, as the
+-- word begins in the text.
 use Rattle.std.proofs.Common.{◌≡◌, ◌-◌, arith}
 use Rattle.chess_pgn.proofs.past_draws.token_effect.Goals as goal
 

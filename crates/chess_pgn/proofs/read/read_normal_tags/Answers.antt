@@ -1,6 +1,7 @@
 -- The loop's invariant: reading on from the offset reached gives the same game as reading from `at`. It holds at the
--- start (GameReads.first_normal), after each tag (GameReads.more_normal), and after the white space and dots that are
--- skipped next (GameReads.normal_on).
+-- start (GameReads.first_normal), after each token among tags (more_normal), and after the white space and dots that
+-- are skipped next (normal_on). `apply_token` asks that such a token is in the text, and no move that the game plays
+-- (LeftTokens.tags_left).
 use Rattle.std.proofs.Common.{sym, ◌∙◌}
 use Rattle.pgn_tokens.specs.Seen.{found_seen, token_seen}
 use Rattle.chess_pgn.proofs.{GameReads.first_normal, GameReads.more_normal, GameReads.normal_on, LeftTokens.tags_left}

@@ -1,6 +1,7 @@
 -- Reading on from here, with the game read so far, gives what is read of the whole game (GameReads.Reads). The step of
--- a token keeps this (GameReads.more), and so do what is skipped after it (GameReads.alike) and the words played then
--- (GameReads.further), after which the next token is no move to be played (GameReads.ReadsWords).
+-- a token keeps this (more), and so do what is skipped after it (alike) and the words played then (further), after
+-- which the next token is no move to be played (ReadsWords, the invariant). At the exits: a fault leaves nothing
+-- declared (bare_at_fault), and what was read is what any split of the text says (GamesByTags.as_said).
 use Rattle.pgn_tokens.specs.Seen.{token_seen, fault_seen}
 use Rattle.chess_pgn.specs.{declared.read.PgnFaultKind.TheVariants.NoResult, ties.GameSteps.so_far, ties.GameSteps.StopsAt}
 use Rattle.pgn_tokens.proofs.shared.Tokens.{token_within}

@@ -1,4 +1,5 @@
--- The tag is the last tag Variant of the text's split (read_split).
+-- The tag that `last_tag` finds, or none, is the last tag `Variant` of the text's split into tokens (the split is that
+-- of read_split), at both exits.
 use Rattle.pgn_tokens.specs.Tokens.{tokens_from}
 use Rattle.byte_devices.specs.Bytes.{after_byte_order_mark}
 use Rattle.pgn_tokens.proofs.shared.Tokens.{read_split}

@@ -1,4 +1,4 @@
--- Whether a word is passed over depends only on its kind, so each kind is gone through (PassedWords.passed_by_kind).
+-- A word is passed over exactly if it is of any kind but `Move` (PassedWords.passed_by_kind): one goal for each kind.
 use Rattle.std.proofs.Common.{◌∙◌, ap}
 use Rattle.chess_pgn.proofs.PassedWords.{passes, passed_by_kind}
 use Rattle.chess_pgn.proofs.variations.is_passed.Goals as goal

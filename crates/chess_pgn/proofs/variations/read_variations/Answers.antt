@@ -1,4 +1,4 @@
--- The fault is in the text (LinesRead.fault_within).
+-- The clause `within`: each fault of a game's line, also in its variations, is in the text (LinesRead.fault_within).
 use Rattle.std.proofs.Common.{length, sym, subst, true}
 use Rattle.chess_pgn.specs.declared.variations.TheConstants.{MOST_NESTED}
 use Rattle.chess_pgn.proofs.LinesRead.{InText, fault_within, of_error}

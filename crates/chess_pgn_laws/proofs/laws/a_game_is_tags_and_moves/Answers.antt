@@ -1,4 +1,6 @@
--- The three definitions agree, since a text has only one split into tokens (Games of chess_pgn, Tokens of pgn_tokens).
+-- `pgn_read` is what the split `tokens_from` says of the game (read_split), and what any split says, since a text has
+-- only one (only_read of chess_pgn). Token by token the same is read (reads_alike of chess_pgn, by induction on the
+-- tokens).
 use Rattle.std.proofs.Common.{ℕ, Bool, List, refl}
 use Rattle.chess_pgn.specs.GameRead.{IsRead, pgn_read}
 use Rattle.pgn_tokens.specs.Tokens.{tokens_from}

@@ -1,4 +1,4 @@
--- `tokens_from` is a split of the text, and the only one (Tokens of pgn_tokens).
+-- `tokens_from` is a split of the text (read_split of pgn_tokens), and any split is equal to it (split_read).
 use Rattle.pgn_tokens.proofs.shared.Tokens.{read_split, split_read}
 use Rattle.chess_pgn_laws.proofs.laws.a_text_has_one_split.Goals as goal
 

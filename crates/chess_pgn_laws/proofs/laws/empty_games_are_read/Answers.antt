@@ -1,5 +1,5 @@
--- Texts without a move are worked out (EmptyGames); which texts have the shape of a move is a law (the one that is
--- called).
+-- The small texts are worked out by computation (EmptyGames); which texts have the shape of a move, needed for `O-O`
+-- after a mate, is the law that is called.
 use Rattle.chess_pgn_laws.proofs.EmptyGames.{empty_games_are_read}
 use Rattle.chess_pgn_laws.proofs.laws.empty_games_are_read.Goals as goal
 

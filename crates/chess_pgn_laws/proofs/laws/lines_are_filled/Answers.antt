@@ -1,4 +1,5 @@
--- The lines that are written are as full as they can be, and no others are (FullLines).
+-- The lines that are written of short tokens are as full as they can be (FullLines.are_filled), and no other lines of
+-- these tokens are (FullLines.only_filled).
 use Rattle.chess_pgn_laws.proofs.FullLines.{are_filled, only_filled}
 use Rattle.chess_pgn_laws.proofs.laws.lines_are_filled.Goals as goal
 

@@ -1,4 +1,4 @@
--- The small texts, by computation (WorkedOut).
+-- The small texts are split, read and laid out by computation (WorkedOut).
 use Rattle.chess_pgn_laws.proofs.WorkedOut.{texts_are_split, texts_are_read, texts_are_laid_out}
 use Rattle.chess_pgn_laws.proofs.laws.texts_are_worked_out.Goals as goal
 

@@ -1,4 +1,4 @@
--- What a text is read as is one of the legal moves (reads_legal of FormFacts).
+-- A text is read only as a move of the list of legal moves, filtered by what it denotes (reads_legal of FormFacts).
 use Rattle.std.proofs.Common.{sym}
 use Rattle.chess_text.specs.declared.reading.Reading.TheVariants as reads
 use Rattle.chess_text.proofs.FormFacts.{reads_legal}

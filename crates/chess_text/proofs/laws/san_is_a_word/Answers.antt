@@ -1,4 +1,5 @@
--- The text is castling's or that of a piece's parts, with one mark after it at most; SanLaw gives the bytes of each.
+-- SAN has two to seven bytes, each one that SAN may have, the first a letter: SanLaw shows it of castling's text and of
+-- the text of a piece's parts, each with one mark after it at most.
 use Rattle.chess_text.proofs.SanLaw.{san_short, san_bytes, san_letter}
 use Rattle.chess_text.proofs.laws.san_is_a_word.Goals as goal
 

@@ -1,4 +1,5 @@
--- The loop's invariant: all bytes from `end` on are marks. Its measure is `end`.
+-- The loop's invariant: all bytes from `end` on are marks, so the marks at the text's end are these and those at the
+-- end of the part before `end`. Its measure is `end`.
 use Rattle.std.proofs.Common.{length, take, ◌-◌, ◌+◌, ◌≡◌, ◌≤◌}
 use Rattle.std.specs.List.{suffix_len}
 use Rattle.chess_text.specs.Parts.{is_mark}

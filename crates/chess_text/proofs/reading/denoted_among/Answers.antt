@@ -1,5 +1,6 @@
--- With no start square there is no move. With just one, the moves from it are all; with more, `with_starts` reads them
--- (more_found and last_found of Origins).
+-- Without a start square the list of moves is empty, which is read as `NoSuch`. With just one, the step from `NoSuch`
+-- with its move (one_found, more_found of Origins) is the last one (last_found). The call of `with_starts`, for more,
+-- needs no proof here: its contract is the same.
 use Rattle.std.proofs.Common.{sym, ap, ◌∙◌, eqb-true, flat_map}
 use Rattle.chess_moves.specs.Sets.{members}
 use Rattle.chess_moves.proofs.shared.Members.{members_none}

@@ -1,5 +1,5 @@
--- The moves that the parts denote are, of those from the squares where a piece of this kind has a legal move to the end
--- square, the ones that the parts fit (by_starts of MovesFromStarts).
+-- What `denoted_among` reads from the starts (`legal_starts`: where a piece of this kind has a legal move to the end
+-- square) is what is read of all legal moves that the parts denote (by_starts of MovesFromStarts).
 use Rattle.std.proofs.Common.{ap, ◌∙◌, flat_map}
 use Rattle.chess_moves.specs.Sets.{members}
 use Rattle.chess_text.specs.{Moves.one_of, ties.Forms.denoted_start}

@@ -1,5 +1,6 @@
--- A legal move that the form denotes begins on a square of the set, and all such moves end on one square: so those from
--- the set's squares to that one are all (denoted_from of Origins).
+-- At the loop's beginning: each legal move that the form denotes begins on a square of the set, and all end on one
+-- square, so those from the set's squares to that one are all (denoted_from of Origins). A round takes a square from
+-- the set and adds its moves to what was found, so both together stay the same (more_found).
 use Rattle.std.proofs.Common.{ap, ◌∙◌}
 use Rattle.chess_base.specs.MoveList.{promotions}
 use Rattle.chess_text.specs.ties.Forms.{end_square, denoted_with, with_moves}

@@ -1,5 +1,5 @@
--- The loop's invariant: what was found, with the moves from the squares in `rest`, gives the reading of the whole text.
--- Its measure is the number of squares in `rest`.
+-- The loop's invariant: what was found, with the denoted legal moves from the squares in `rest`, gives the reading of
+-- all legal moves that the form denotes. Its measure is the number of squares in `rest`.
 use Rattle.std.proofs.Common.{◌≡◌, length, filter, flat_map}
 use Rattle.chess_base.specs.MoveList.{promotions, moves}
 use Rattle.chess_moves.specs.Sets.{members}

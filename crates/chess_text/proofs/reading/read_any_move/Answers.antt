@@ -1,5 +1,5 @@
--- A text denotes what its form denotes, and one without a form is no move (reading_denoted, reading_nothing of
--- FormFacts).
+-- A text is read as the legal moves that its form denotes (reading_denoted of FormFacts), and one without a form as no
+-- move (reading_nothing). Coordinates are read by the contract of `read_coordinates`.
 use Rattle.std.proofs.Common.{sym, ◌∙◌}
 use Rattle.chess_text.proofs.FormFacts.{reading_denoted, reading_nothing}
 use Rattle.chess_text.proofs.reading.read_any_move.Goals as goal

@@ -1,5 +1,6 @@
--- The coordinate text of a legal move is read as it, that of another move as none (coordinate_read, coordinate_of_none
--- of CoordinateLaw); a mark after it changes nothing (reading_unmarked of FormFacts).
+-- The coordinate text of a legal move is read as it, that of any other move without a promotion as `NoSuch`
+-- (coordinate_read, coordinate_of_none of CoordinateLaw); a mark after it changes nothing (reading_unmarked of
+-- FormFacts).
 use Rattle.std.proofs.Common.{◌≡◌, ◌<◌, sym, ap, subst, ◌∙◌}
 use Rattle.chess_text.specs.Moves.{reading}
 use Rattle.chess_text.proofs.{CoordinateLaw.coordinate_read, CoordinateLaw.coordinate_of_none, FormFacts.reading_unmarked}

@@ -1,6 +1,7 @@
--- A text of a usual shape is read as its parts, which say the kind of piece (usual_form, usual_one_kind of UsualForms),
--- and denotes what these denote (reading_denoted of FormFacts). What is read is in the list of legal moves
--- (reads_legal), and decides whether the text has a move's shape (Shapes.read_shape).
+-- Value: a text of a usual shape is read as its parts, which say the kind of piece (usual_form, usual_one_kind of
+-- UsualForms), and denotes what these denote (reading_denoted of FormFacts); for others `read_any_move` promises it.
+-- From the value follow the other clauses: what is read is a legal move (reads_legal of FormFacts), and the result
+-- shows whether the text has a move's shape (Shapes.read_shape).
 use Rattle.std.proofs.Common.{ap, sym, ◌∙◌}
 use Rattle.chess_text.specs.{Moves.has_shape, declared.form.Form.TheVariants.Piece}
 use Rattle.chess_text.proofs.{Shapes.read_shape, FormFacts.reading_denoted, FormFacts.reads_legal, UsualForms.usual_form, UsualForms.usual_one_kind}

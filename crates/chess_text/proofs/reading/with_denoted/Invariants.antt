@@ -1,5 +1,5 @@
 -- The loop's invariant: what was found, with the denoted legal moves of the promotions that are left, gives the reading
--- with those of all promotions.
+-- before the loop with those of all promotions.
 use Rattle.std.proofs.Common.{◌≡◌, drop}
 use Rattle.chess_text.specs.ties.Forms.{denoted_with, with_moves}
 use Rattle.chess_text.proofs.reading.with_denoted.Given as goal

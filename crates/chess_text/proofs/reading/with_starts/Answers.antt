@@ -1,5 +1,5 @@
--- Before the first square the reading is `NoSuch`, and going on from there gives what `one_of` says of all moves
--- (one_found of Origins).
+-- Before the first square nothing is found (`NoSuch`), and `NoSuch` with the moves from all squares is what `one_of`
+-- reads of their list (one_found of Origins).
 use Rattle.chess_text.proofs.Origins.{one_found}
 use Rattle.chess_text.proofs.reading.with_starts.Goals as goal
 

@@ -1,5 +1,5 @@
--- The loop's invariant: what was found, with the moves from the squares in `rest`, gives the reading from all of
--- `starts`. Its measure is the number of squares in `rest`.
+-- The loop's invariant: what was found, with the denoted moves from the squares in `rest`, gives what is read of those
+-- from all of `starts`. Its measure is the number of squares in `rest`.
 use Rattle.std.proofs.Common.{◌≡◌, length, flat_map}
 use Rattle.chess_moves.specs.Sets.{members}
 use Rattle.chess_text.specs.{Moves.one_of, ties.Forms.denoted_start, ties.Forms.with_moves}

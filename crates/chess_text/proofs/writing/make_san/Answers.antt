@@ -1,4 +1,5 @@
--- The text is the unmarked SAN with the mark of the position after the move: `make` has brought the board there.
+-- The text is the unmarked SAN, written before the move was made, and then the mark of the position that `make` has
+-- brought the board to: the SAN without a mark and the mark after the move, as the contract has them.
 use Rattle.std.proofs.Common.{ap, ◌++◌, ◌∙◌}
 use Rattle.chess_text.specs.San.{check_mark}
 use Rattle.chess_text.proofs.writing.make_san.Goals as goal

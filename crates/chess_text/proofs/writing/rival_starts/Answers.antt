@@ -1,5 +1,5 @@
--- The rivals begin on the squares from which a piece of this kind has the legal move, without the move's own start
--- (rivals of proofs/Rivals).
+-- The rivals begin on the squares from which a piece of this kind has a legal move to the move's end square, without
+-- the move's own start (rivals of proofs/Rivals).
 use Rattle.chess_text.proofs.Rivals.{rivals}
 use Rattle.chess_text.proofs.writing.rival_starts.Goals as goal
 

@@ -1,4 +1,5 @@
--- Some square is on the file exactly if the set and the file have one in common (some_met of Rivals).
+-- Some of the squares is on the file exactly if their set and the set of the file's squares have one in common
+-- (some_met of Rivals).
 use Rattle.std.proofs.Common.{◌==◌}
 use Rattle.chess_base.specs.Squares.{file}
 use Rattle.chess_text.proofs.Rivals.{some_met}

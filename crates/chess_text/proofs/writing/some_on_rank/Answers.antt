@@ -1,4 +1,5 @@
--- Some square is on the rank exactly if the set and the rank have one in common (some_met of Rivals).
+-- Some of the squares is on the rank exactly if their set and the set of the rank's squares have one in common
+-- (some_met of Rivals).
 use Rattle.std.proofs.Common.{◌==◌}
 use Rattle.chess_base.specs.Squares.{rank}
 use Rattle.chess_text.proofs.Rivals.{some_met}

@@ -1,6 +1,6 @@
--- The text that is made by the other legal moves is the SAN of the definition without its mark (SanWritten.san_marked).
--- A legal move is one of a piece (always_described), and only a pawn promotes, so no other piece's text has a promotion
--- (legal_promotes).
+-- A legal move has a description (always_described of SanWritten), so the exit without one isn't reached. Only a pawn
+-- promotes (legal_promotes), as `described_text` asks for. Its text with the mark after the move is the SAN of the
+-- definition (san_marked).
 use Rattle.std.proofs.Common.{ap, ◌∙◌}
 use Rattle.chess_text.specs.Moves.{described}
 use Rattle.chess_text.proofs.SanWritten.{always_described, legal_promotes, san_marked}

@@ -1,5 +1,5 @@
--- The text names start, end and promotion, so its parts fit one legal move alone; a text that denotes one alone is
--- read as it (CoordinateLaw of chess_text).
+-- The text names start, end and promotion, so its parts fit one legal move alone and have a form of a move's text; a
+-- text of this shape that denotes one legal move alone is read as it (CoordinateLaw of chess_text).
 use Rattle.chess_text.proofs.shared.Denoting.{coordinate_alone, coordinate_shape, coordinate_read}
 use Rattle.chess_text_laws.proofs.laws.coordinate_denotes_its_move.Goals as goal
 

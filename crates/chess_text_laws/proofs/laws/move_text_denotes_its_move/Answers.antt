@@ -1,5 +1,5 @@
--- The text is that of the coordinates, which denotes its move alone, or in Chess960 that of castling to a side, which
--- is one move (ShownLaw).
+-- The text is that of the coordinates, or in Chess960 for castling that of its side: each denotes one legal move alone
+-- and has a move's shape, so it is read as this move (ShownLaw).
 use Rattle.chess_text_laws.proofs.ShownLaw.{shown_alone, shown_shape, shown_read}
 use Rattle.chess_text_laws.proofs.laws.move_text_denotes_its_move.Goals as goal
 

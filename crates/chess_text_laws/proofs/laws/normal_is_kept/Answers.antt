@@ -1,4 +1,5 @@
--- On positions of normal chess moves are read and written as for normal chess alone (NormalTexts).
+-- In positions of normal chess the legal moves, what a text is read as, SAN and the texts in lists of moves are those
+-- of the definitions for normal chess only (NormalTexts).
 use Rattle.chess_text_laws.proofs.NormalTexts.{normal_kept}
 use Rattle.chess_text_laws.proofs.laws.normal_is_kept.Goals as goal
 

@@ -1,6 +1,6 @@
--- Which part comes next shows by its first byte; a file letter is the start file only where a square follows. So each
--- text has the parts of just one reading (Grammar of chess_text). A text without parts denotes castling or nothing
--- (PartsOfTexts).
+-- The clauses are lemmas: parts that are read have the text as theirs, and are read from their own text (Grammar of
+-- chess_text, part by part: which comes next shows by its first byte, and a file letter is the start file only where a
+-- square follows); what a text denotes and its shape follow from these parts (PartsOfTexts).
 use Rattle.chess_text.proofs.shared.Parts.{denoted-parts, parts-denoted}
 use Rattle.chess_text_laws.proofs.PartsOfTexts.{denoted_by_text, shaped_by_text}
 use Rattle.chess_text_laws.proofs.laws.texts_have_parts.Goals as goal

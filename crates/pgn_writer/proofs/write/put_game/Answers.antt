@@ -1,5 +1,6 @@
 -- A game's text has three parts: its tags with an empty line, its move text, and an empty line (GameTexts.game_is). If
--- one can't be put, a beginning of the whole was (GameTexts.first_broke, second_broke).
+-- the first or second can't be put, a beginning of the whole was (GameTexts.first_broke, second_broke); with the third
+-- the whole is, or a beginning of it (third_put).
 use Rattle.std.proofs.Common.{refl, ◌∙◌}
 use Rattle.pgn_writer.proofs.Added.{adds_exit}
 use Rattle.pgn_writer.proofs.GameTexts.{first_broke, second_broke, third_put, game_is}

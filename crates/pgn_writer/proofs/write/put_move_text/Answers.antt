@@ -1,6 +1,6 @@
 -- The move text has three parts: the tokens of the moves, the outcome, put at the column that these left, and the end
--- of the line (GameTexts.moves_are). If one can't be put, a beginning of the whole was (GameTexts.first_broke,
--- second_broke).
+-- of the line (GameTexts.moves_are). If the first or second can't be put, a beginning of the whole was
+-- (GameTexts.first_broke, second_broke); with the third the whole is, or a beginning of it (third_put).
 use Rattle.std.proofs.Common.{refl, ◌∙◌, ap}
 use Rattle.chess_game.specs.Results.{outcome_text}
 use Rattle.pgn_writer.proofs.Added.{adds_exit}

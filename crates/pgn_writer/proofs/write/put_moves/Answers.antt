@@ -1,6 +1,7 @@
 -- By the invariant the moves so far were put, and the scratch board is at the position after them. The game's next move
--- is legal there (GameTexts.legal_next), and once it is put, all moves up to it were (GameTexts.moves_put). If the
--- writer fails at this move, it took a beginning of the text of all moves (GameTexts.moves_broke).
+-- is legal there (GameTexts.legal_next), and once it is put, all moves up to it were (moves_put), with the line's
+-- column and the position after them (columns_more, positions_more). If the writer fails at this move, it took a
+-- beginning of the text of all moves (moves_broke).
 use Rattle.std.proofs.Common.{refl, ◌∙◌}
 use Rattle.pgn_writer.proofs.Added.{adds_exit}
 use Rattle.pgn_writer.proofs.GameTexts.{legal_next, IsNext, moves_put, moves_broke, columns_more, positions_more}

@@ -1,5 +1,6 @@
--- The lines have three parts: the roster, the tags after it, and an empty line (GameTexts.tags_are). If one can't be
--- put, a beginning of the whole was (GameTexts.first_broke, second_broke).
+-- The lines have three parts: the roster, the tags after it, and an empty line (GameTexts.tags_are). If the first or
+-- second can't be put, a beginning of the whole was (GameTexts.first_broke, second_broke); with the third the whole is,
+-- or a beginning of it (third_put).
 use Rattle.std.proofs.Common.{refl, ◌∙◌}
 use Rattle.pgn_writer.proofs.Added.{adds_exit}
 use Rattle.pgn_writer.proofs.GameTexts.{first_broke, second_broke, third_put, tags_are}

@@ -1,4 +1,4 @@
--- SAN is ASCII, and so UTF-8: `from_utf8` never fails, and the `unreachable!` isn't reached.
+-- SAN is ASCII by the type's invariant, and so UTF-8: `from_utf8` never fails, and the `unreachable!` isn't reached.
 use Rattle.std.proofs.lemmas.Str.{IsUtf8-from_ascii}
 use Rattle.chess_text.proofs.san_text.San.as_str.Goals as goal
 
