@@ -195,7 +195,7 @@ pub record TextsAreReadOn : Type 0 where
 abbrev pub AreItsPieces : Text → List (List ℕ) → Type 0
 AreItsPieces text pieces = cut (codes text) ≡ pieces
 
--- a tag line of more than 256 bytes, with this second tag
+-- a tag line of more than 256 bytes: one tag, then this text, which begins as a second tag does, and spaces
 abbrev pub long_line : Text → List ℕ
 long_line second = codes "[Event \"a\"] " ++ codes second ++ replicate 250 32 ++ codes "\n"
 

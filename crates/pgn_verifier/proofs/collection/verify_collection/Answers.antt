@@ -1,5 +1,5 @@
--- If memory runs out before the first piece, nothing was read and nothing written (Finished.not_begun). A fault among
--- the pieces is the one returned. After the lines of all pieces the counts were written, and all was flushed
+-- If memory runs out before the first piece, nothing was read and nothing written (Finished.not_begun). If verifying
+-- the pieces fails, that is the result. After the lines of all pieces the counts were written, and all was flushed
 -- (Finished.finished); or that failed (Finished.not_finished).
 use Rattle.std.proofs.lemmas.Result.{err_from_is_err_and}
 use Rattle.pgn_verifier.proofs.Finished.{finished, not_begun, not_finished}
