@@ -7,7 +7,7 @@ pub use Rattle.pgn_tokens.proofs.PassedTags.{tags_end, tags_on}
 pub use Rattle.pgn_tokens.proofs.Strings.{string_other, string_quote}
 -- how a tag begins: the reader finds the name and the quote exactly where the relation `OpensTag` has them
 -- (opening_read, opening_is); a name that is read is of letters, digits and `_` (name_is), and comes after a gap
--- (name_after_gap, name_comes)
+-- (name_after_gap); where a byte of names comes after a gap, a name is read (name_comes)
 pub use Rattle.pgn_tokens.proofs.TagFronts.{NameIs, OpeningRead, name_after_gap, name_comes, name_is, opening_is, opening_read}
 -- the definition of a tag reads the same as the one by its parts
 pub use Rattle.pgn_tokens.proofs.TagParts.{parts_are}
