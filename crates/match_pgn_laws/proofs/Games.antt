@@ -1,6 +1,7 @@
--- What laws on a match's output need of its games: each has tags whose texts a tag may have (tag_texts), legal moves
--- (is_line), and the outcome that was reported (IsGame); and the output is the text of these games and the score
--- (Wrote).
+-- What laws on a match's output need of its games, if it was played to its score (wrote): the output is the text of
+-- these games and the score (Wrote), and each game has the reported outcome (IsGame), a sound start (is_sound), legal
+-- moves (is_line), and tags whose texts a tag may have (tag_texts). It follows from `PlaysGamesWith`, and from laws on
+-- matches given as arguments.
 use Rattle.std.proofs.Common.{◌≡◌, ℕ, ◌≤◌, ◌+◌, true, List, [], ◌∷◌, ◌++◌, length, length-append, map, take, None, Some, Option, Ok, Err, Result, sym, ap, subst, inl, inr, arith, is_ok, codes, decimal}
 use Rattle.std.specs.List.{AllByRecursion, enumerate_from}
 use Rattle.std.proofs.{lemmas.Bool.Decides.nat_tests, lemmas.List.length-map, lemmas.List.length-take}

@@ -1,6 +1,6 @@
 -- The only line of a game's text that begins with `[Result ` is that of its tag Result (game_found): the other tags
--- have other names, and the lines of moves have no `[` at all. All lines are cut right, since no tag or move has a line
--- feed in it.
+-- have other names (tag_found), and the lines of moves have no `[` at all (inner_game). All lines are cut right, since
+-- no tag or move has a line feed in it (tags_in_line, inner_lines). By induction on lines and tokens.
 use Rattle.std.proofs.Common.{◌≡◌, ◌∙◌, ℕ, ◌≤◌, Bool, true, false, ◌&&◌, ◌||◌, cond, eqb, List, [], ◌∷◌, ◌++◌, length, take, refl, sym, ap, subst, append_assoc, append-nil, arith, bytes_eq, codes, decimal, not, nat_le}
 use Rattle.std.specs.List.{AllByRecursion, filter, list_all, onto_first, slice_split}
 use Rattle.std.specs.Str.Parse.{AllDigits}

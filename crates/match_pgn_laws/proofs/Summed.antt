@@ -1,6 +1,6 @@
--- The score line of a match is the sum of the lines `[Result ..]` above it: these lines are the games' outcomes in
--- order (tags_found), and counting games by their outcome and the side of the first engine is counting such lines by
--- turns (score_is).
+-- The score line of a match is the sum of the lines `[Result ..]` above it (scores_are_sums): these lines are the
+-- games' outcomes in order (tags_found), and counting games by their outcome and the side of the first engine is
+-- counting such lines by turns (counted, score_is). Each by induction on the games.
 use Rattle.std.proofs.Common.{◌≡◌, ◌∙◌, ℕ, ◌+◌, ◌%◌, Bool, List, [], ◌∷◌, ◌++◌, length, map, cond, refl, sym, ap, subst, arith, bytes_eq, codes, decimal, flat_map, ◌==◌}
 use Rattle.std.specs.List.{count_by, enumerate_from}
 use Rattle.std.proofs.{lemmas.List.length-map, lemmas.List.Sums.sum_by-cons}

@@ -1,6 +1,6 @@
--- What a match writes passes `verify` without a fault: its games are playable (writable), and the text of playable
--- games is verified without a fault, by a law of pgn_verifier_laws. So the reports have the results of the games
--- (same_results).
+-- What a match writes passes `verify` without a fault (matches_pass_verify): its games are playable (playable,
+-- writable), and the text of playable games is verified without a fault, by a law of pgn_verifier_laws. So the reports
+-- have the results of the games, which are those of the lines `[Result ..]` (same_results).
 use Rattle.std.proofs.Common.{◌≡◌, ◌∙◌, ℕ, ◌+◌, ◌≤◌, ◌<◌, List, [], ◌∷◌, ◌++◌, length, map, take, None, false, refl, sym, ap, subst, codes, flat_map}
 use Rattle.std.specs.List.{enumerate_from}
 use Rattle.byte_devices.specs.Transfers.{OutputTook, all_of}

@@ -7,10 +7,11 @@ ghost use Rattle.match_pgn_laws.specs.Scores.{ScoresAreSums};
 use chess_match_laws::{games_are_lines, games_end_at_verdicts, verdicts_end_matches};
 use pgn_verifier_laws::{reports_are_the_only_ones, written_texts_have_no_fault};
 
-/// States a law and does nothing: the score is the sum of the tags `Result` above it. The last line of a match says how
-/// many games its first engine won, lost and drew, and how many were unfinished. These are the numbers by the lines
-/// `[Result ..]` above, where this engine has White in the first game, Black in the second, and so on. If no engine had
-/// a fault, there are just as many such lines as planned games.
+/// States a law and does nothing: if a match from a sound position wrote its score (as it does after all games, or
+/// those up to one with a fault of an engine), this is the sum of the tags `Result` above it. The last line of a match
+/// says how many games its first engine won, lost and drew, and how many were unfinished. These are the numbers by the
+/// lines `[Result ..]` above, where this engine has White in the first game, Black in the second, and so on. If no
+/// engine had a fault, there are just as many such lines as planned games.
 ///
 /// It refuses colours that never change, a draw that counts as a win, and a score of another outcome than the tag's.
 pub fn scores_are_sums()
@@ -21,9 +22,9 @@ pub fn scores_are_sums()
     verdicts_end_matches();
 }
 
-/// States a law and does nothing: `verify` accepts what a match writes above its score, with `--strict` or without (but
-/// without `--variations`). It reports each game, without a fault and with the outcome of its tag `Result`. (Without
-/// `--keep-going`, `verify` takes at most 16,777,216 bytes.)
+/// States a law and does nothing: if a match from a sound position wrote its score, `verify` accepts what it wrote
+/// above that, with `--strict` or without (but without `--variations`). It reports each game, without a fault and with
+/// the outcome of its tag `Result`. (Without `--keep-going`, `verify` takes at most 16,777,216 bytes.)
 pub fn matches_pass_verify()
     ensures { MatchesPassVerify }
 {

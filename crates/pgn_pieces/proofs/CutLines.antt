@@ -1,6 +1,7 @@
 -- Cutting a text into lines, and lines into pieces, each from the first one on. The first line of a text is split off
--- (whole_line, first_line); then it goes on the piece so far (goes_on) or begins the next one (ends_here). So `cut`,
--- which adds line by line at the end, gives the same pieces as `cut_lines` from the front (cut_is).
+-- (whole_line, first_line); then it is added to the piece so far (goes_on) or begins the next one (ends_here). So
+-- `cut`, which adds line by line at the end, gives the same pieces as `cut_lines` from the front (cut_is), by induction
+-- on the lines (cut_on).
 use Rattle.std.proofs.Common.{◌≡◌, ◌<◌, ℕ, Bool, true, false, List, [], ◌∷◌, ◌++◌, length, map, reverse, refl, sym, ap, ◌∙◌, append_assoc, append-nil, length-append, arith, if◌then◌else◌, ◌&&◌, ◌||◌}
 use Rattle.std.specs.List.{onto_first, concat, list_any, fold}
 use Rattle.std.proofs.{lemmas.Bool.and_parts, lemmas.Bool.or_parts, lemmas.List.reverse-append}

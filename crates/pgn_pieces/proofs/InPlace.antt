@@ -1,6 +1,6 @@
--- Each piece of a text is at its offset, where a line begins, for the law `pieces_are_in_place`: the pieces one after
--- another are the text (cut_is_all), and each but the last ends with a line (WholePieces), so the next begins one. By
--- induction on the pieces before it (each_placed).
+-- For the law `pieces_are_in_place` (in_place): the pieces of a text, one after another, are the text (cut_is_all), so
+-- each is at its offset, and its line's number counts the line ends in the pieces before. Each but the last ends with a
+-- line (WholePieces), so the next begins one. By induction on the pieces before it (each_placed).
 use Rattle.std.proofs.Common.{◌≡◌, ℕ, ◌+◌, ◌-◌, Bool, true, false, List, [], ◌∷◌, ◌++◌, length, map, reverse, take, drop, Some, None, cond, refl, sym, ap, subst, ◌∙◌, append_assoc, append-nil, length-append, arith, ap₂, if◌then◌else◌, nat_le, not}
 use Rattle.std.specs.List.{onto_first, concat, sum_by, prefix_len, suffix_len}
 use Rattle.std.proofs.{lemmas.List.take-append-drop, lemmas.List.reverse-append, lemmas.List.Sums.sum_by_push, Math.Seq.take-append_seam, Math.Seq.drop-append_seam, lemmas.List.Folds.concat-append}

@@ -1,6 +1,7 @@
--- Of bytes that were let go (dropped from memory) the first 40 are kept, and the others are counted, as `\n` or other
--- bytes. Such a record and more bytes have the counts of all these bytes, both if fewer than 40 were kept before and if
--- not (counts_added).
+-- Of bytes that were let go (dropped from memory) the first 40 are kept, and of the others it is counted how many are
+-- `\n`. `known` is a list of bytes with these counts: its first 40 are those kept (first_kept), and with more bytes let
+-- go it has the counts of all (counts_added), whether or not fewer than 40 were kept before. Also, the first 40 bytes
+-- of what is held from an offset on (first_held).
 use Rattle.std.proofs.Common.{◌≡◌, ◌≤◌, ◌<◌, ◌⊎◌, ℕ, zero, suc, ◌+◌, ◌-◌, List, [], ◌∷◌, ◌++◌, length, take, drop, refl, sym, ap, ◌∙◌, inl, inr, append-nil, length-append, length-drop, arith, ap₂, replicate, min}
 use Rattle.std.proofs.{lemmas.Bool.cases_lt, lemmas.Grind.common_steps}
 use Rattle.std.proofs.lemmas.List.{take-append-drop, take-append-le, take_all, length-take-le, length-replicate, nil_from_length}

@@ -1,5 +1,6 @@
 -- The line ends of two texts put together are those of each (count_append), and no text has more line ends than bytes
--- (line_ends-le). Then the first bytes of two texts put together (take_append).
+-- (line_ends-le): by induction on the text. Also, the first bytes of two texts put together are those of the first, and
+-- then those of the second if the first is too short (take_append).
 use Rattle.std.proofs.Common.{◌≡◌, ◌≤◌, ℕ, zero, suc, ◌+◌, ◌-◌, List, [], ◌∷◌, ◌++◌, length, take, ap, ◌∙◌, arith, if◌then◌else◌, ◌==◌}
 use Rattle.std.proofs.lemmas.List.Sums.{sum_by-append, count_by-le-length}
 use Rattle.pgn_pieces.specs.Places.{line_ends}

@@ -1,5 +1,6 @@
--- The kind of a line that may go on: a tag line stays one (tag_stays), since its front only gets longer; and after 256
--- bytes no more bytes change the kind (decided_long), since the front is the same.
+-- The kind of a line that may go on. After 256 bytes no more bytes change it (decided_long), nor of a line whose kind
+-- is known already (decided_on), since the front is the same. A shorter tag line stays one (tag_stays), of the tag
+-- Event or of another, since bytes are added only after its name and quote.
 use Rattle.std.proofs.Common.{◌≡◌, ◌≤◌, ◌<◌, ℕ, zero, suc, ◌+◌, eqb, leb, Bool, true, false, List, [], ◌∷◌, ◌++◌, length, take, drop, cond, refl, sym, ap, ◌∙◌, length-drop, append_assoc, arith, bytes_eq, if◌then◌else◌, ◌&&◌, not, nat_lt, codes}
 use Rattle.std.specs.List.{list_any, prefix_len, take_while}
 use Rattle.std.proofs.{lemmas.Bool.and_parts, lemmas.Bool.leb-true, lemmas.Bool.Decides.nat_tests, lemmas.List.take-append-le, lemmas.List.drop-append-le, lemmas.List.take_all, lemmas.List.Folds.prefix_len-append, lemmas.List.Folds.length-prefix_len, lemmas.List.Sums.prefix_len-le-length}

@@ -1,5 +1,6 @@
 -- Passing over the tags, comments, glyphs, dots and marks with which a line's front begins, one by one: after one of
--- them (one_fewer), where none begins (no_part, stays), and after the first tag, whose name is known already (at_tag).
+-- them one fewer may be passed (one_fewer). Where none begins (no_part), or no more may be passed, the text stays
+-- (stays, stays_without_more). The first part is a tag, from whose name on the code reads (at_tag).
 use Rattle.std.proofs.Common.{◌≡◌, ℕ, zero, suc, Bool, true, false, ◌&&◌, ◌||◌, ◌==◌, if◌then◌else◌, List, [], ◌∷◌, take, Option, Some, None, codes, refl, sym, ap, ◌∙◌}
 use Rattle.std.specs.List.{list_any}
 use Rattle.std.specs.Option.{option_map, option_map_or}

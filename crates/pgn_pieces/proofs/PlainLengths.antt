@@ -1,5 +1,6 @@
--- How many bytes come before the first that ends a line: up to it a line is whole (line_of), and if there is none, all
--- of the text is one line without its end (none_in).
+-- How many bytes come before the first that ends a line, as the code counts them (before_end): up to that byte, and
+-- with it, a text has a whole line (line_of); and if there is none, all of the text is a line without its end
+-- (none_in). By induction on the text.
 use Rattle.std.proofs.Common.{◌≡◌, ◌<◌, ℕ, ◌+◌, Bool, true, false, List, [], ◌∷◌, length, get_or, take, refl, sym, ap, subst, ◌∙◌, one-add, cond, not, ◌||◌, ◌==◌}
 use Rattle.std.specs.List.{position_or_len}
 use Rattle.std.proofs.{Math.Path.fun_ext, Math.Seq.take-length, lemmas.Bool.or_from, lemmas.List.take_more, lemmas.List.Sums.passes_at_first}

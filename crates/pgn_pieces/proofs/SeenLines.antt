@@ -1,6 +1,7 @@
 -- What is known of a piece by its lines so far (`HasSeen`) stays right when a line, or a part of one, is added to it
--- (add_whole, add_open); and it says where the piece ends (ends_before), since a line begins the next piece by the
--- kinds of the lines before it only.
+-- (add_whole, add_open), and says where the piece ends (ends_before), since a line begins the next piece by the kinds
+-- of the lines before it only. The lemmas whole_.. are for lines with their ends, open_.. for others, and look_.. for
+-- the lines of a text.
 use Rattle.std.proofs.Common.{◌≡◌, ◌≤◌, ◌<◌, ℕ, ◌+◌, Bool, true, false, List, [], ◌∷◌, ◌++◌, length, take, drop, refl, sym, ap, subst, ◌∙◌, inl, inr, append_assoc, append-nil, length-append, length-drop, arith, ◌&&◌, ◌||◌, take-append-drop, take_all}
 use Rattle.std.specs.List.{list_any, concat}
 use Rattle.std.proofs.{Math.Seq.take-length, Math.Seq.take-add, lemmas.Bool.and_parts, lemmas.Bool.or_cases, lemmas.List.Folds.list_any-append}

@@ -1,6 +1,7 @@
--- A call for the next piece: what was looked through belongs to the piece (Looked), and where its end is found the
--- piece that is returned is the first of those to come (first_known). If the piece is too long, other bytes with the
--- same counts are held: a caller sees the same (told_right).
+-- A call for the next piece: all that was looked through belongs to it (Looked), which one read more keeps (looked_on).
+-- It ends with the first of the pieces still to come (next_found, by first_known), with the last one or none
+-- (next_last), or with a fault, before another piece has ended (next_stopped). If the piece is too long, other bytes
+-- with the same counts are held: a caller sees the same (told_right).
 use Rattle.std.proofs.Common.{◌≡◌, ◌≤◌, ◌<◌, ℕ, suc, ◌+◌, ◌-◌, ◌^◌, ◌==◌, nat_lt, Bool, true, false, List, [], ◌∷◌, ◌++◌, length, map, take, drop, Some, None, Ok, Err, refl, sym, ap, subst, ◌∙◌, append_assoc, append-nil, length-append, arith, ap₂, if◌then◌else◌, nat_le}
 use Rattle.std.specs.List.{concat}
 use Rattle.std.proofs.{lemmas.Bool.Decides.nat_tests, Math.Seq.take-length, Math.Seq.drop-length, lemmas.List.take-append-drop, lemmas.List.nil_from_length}

@@ -1,6 +1,6 @@
--- The quote that closes a string, found from mark to mark, a mark being a quote or a backslash: other bytes close
+-- The quote that closes a string, found from mark to mark, a mark being a quote or a backslash. Other bytes close
 -- nothing (quote_after_mark), a quote closes the string (closed), and after a backslash the next byte doesn't
--- (kept_on).
+-- (kept_on), and the text left is shorter (shorter_on). By induction on the text.
 use Rattle.std.proofs.Common.{◌≡◌, ◌<◌, ℕ, suc, ◌+◌, Bool, true, false, not, ◌&&◌, ◌||◌, ◌==◌, List, [], ◌∷◌, length, take, drop, cond, codes, bytes_eq, refl, sym, ap, ◌∙◌, arith, length-drop, if◌then◌else◌}
 use Rattle.std.specs.List.{list_all, position_or_len}
 use Rattle.std.proofs.lemmas.Bool.Decides.{nat_tests}

@@ -1,5 +1,7 @@
--- The parts of the buffer that is held give the state of cutting (viewed); it stays right when bytes are added to the
--- piece (passed_on), and when those of a piece that is too long are let go (let_gone).
+-- The parts of the buffer that is held give the state of cutting (viewed). With `n` bytes more in the piece they give
+-- the state in which `n` more bytes were added to it (passed_on); and if the bytes of a piece that is too long are let
+-- go, they give a state with the same counts (let_gone). The code's slice from an offset on is the buffer without the
+-- bytes before it (slice_is).
 use Rattle.std.proofs.Common.{◌≡◌, ◌≤◌, ◌<◌, ℕ, ◌+◌, ◌-◌, Bool, List, ◌++◌, length, take, drop, refl, sym, ap, subst, ◌∙◌, append_assoc, append-nil, length-append, length-drop, arith, ap₂, take-add}
 use Rattle.std.proofs.lemmas.List.{drop-drop, length-take-le, take_rest}
 use Rattle.pgn_pieces.specs.{Stream.State, declared.pieces.TheConstants.PIECE_LEN, ties.Held.passed, ties.Held.SameCounts, ties.Held.LetGo}

@@ -1,5 +1,5 @@
--- Each piece of a text but the last ends with a line (cut_ends): the lines of the text do, and a piece ends with its
--- last line.
+-- Each piece of a text but perhaps the last ends with `\n` or `\r` (cut_ends): the lines of the text do (lines_end),
+-- and a piece ends with its last line (pieces_end, by induction on the lines).
 use Rattle.std.proofs.Common.{◌≡◌, ℕ, Bool, true, false, List, [], ◌∷◌, ◌++◌, refl, sym, ap, subst, ◌∙◌, inl, inr, ◌⊎◌, append_assoc, append-nil, if◌then◌else◌}
 use Rattle.std.specs.List.{onto_first, concat}
 use Rattle.pgn_pieces.specs.{Pieces.lines_of, Pieces.begins_piece, Pieces.cut, Places.breaks_line, shared.Cutting.cut_lines, shared.Cutting.piece_of}

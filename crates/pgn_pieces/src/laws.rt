@@ -11,9 +11,9 @@ pub fn pieces_are_cut()
     ensures { PiecesAreCut }
 {}
 
-/// States a law and does nothing: each piece of a text has the bytes that are at its offset in the text, and begins
-/// where a line begins: at the text's first byte, or after `\n` or `\r`. The number of that line is one more than the
-/// number of line ends (`\n`) in all pieces before it.
+/// States a law and does nothing: each piece of a text has the bytes that are at its offset in the text (this isn't
+/// said of a piece over 16,777,216 bytes), and begins where a line begins: at the text's first byte, or after `\n` or
+/// `\r`. The number of that line is one more than the number of line ends (`\n`) in all pieces before it.
 pub fn pieces_are_in_place()
     ensures { PiecesAreInPlace }
 {}

@@ -1,5 +1,6 @@
 -- Where reading from an offset of a text begins: at the offset itself, or after a byte order mark (EF BB BF) at offset
--- 0. This is in the text, and from the text's end on there is no token.
+-- 0. This is not before the offset and in the text (not_before), and from the text's end on there is no token
+-- (none_from_end).
 use Rattle.std.proofs.Common.{◌≡◌, ℕ, ◌≤◌, true, eqb, List, [], ◌∷◌, length, take, ap, arith, ◌&&◌, bytes_eq, length-drop, length-take}
 use Rattle.std.proofs.{lemmas.Bool.and_parts, lemmas.Bool.Decides.nat_tests, lemmas.Slice.Eq.bytes_eq-Decides}
 use Rattle.byte_devices.specs.Bytes.{after_byte_order_mark}

@@ -1,5 +1,5 @@
 -- The table `CLASSES` of bytes.rt agrees with the definitions at each of the 256 bytes, by computing: it has `w` (119)
--- exactly for the bytes of words, and `p` (112) exactly for white space and dots.
+-- exactly for the bytes of words (word_class), and `p` (112) exactly for white space and dots (passed_class).
 use Rattle.std.proofs.Common.{◌≡◌, ℕ, ◌<◌, ◌||◌, nat_eq, eqb, get_or, refl}
 use Rattle.byte_devices.proofs.shared.ByteTables.{agree_below, class_by_test}
 use Rattle.pgn_tokens.specs.{declared.bytes.TheConstants.CLASSES}

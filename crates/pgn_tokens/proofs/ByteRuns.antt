@@ -1,5 +1,7 @@
--- The longest front of a text whose bytes all pass a test (a run), such as the letters of a word: splitting it off, and
--- why it is the longest. Then the rest of a text from its first `\n` on, and after its first `}`.
+-- A run is the longest front of a text whose bytes all pass a test, such as the letters of a word. It can be split off
+-- (run_drop, run_take), its bytes pass and the next one doesn't (run_passes, run_stops), and it is the longest front
+-- with a property that goes with the test (longest_run, stops_run). Then what is left from the first `\n` on
+-- (line_says), and after the first `}` (brace_says). By induction on the text.
 use Rattle.std.proofs.Common.{◌≡◌, ℕ, suc, ◌+◌, Bool, true, false, cond, not, eqb, List, [], ◌∷◌, ◌++◌, take, drop, Option, Some, None, refl, sym, ap, subst, ◌∙◌, arith}
 use Rattle.std.specs.List.{list_all, prefix_len}
 use Rattle.std.proofs.{lemmas.Bool.and_parts, lemmas.Bool.eqb-true, lemmas.Bool.Decides.nat_tests}

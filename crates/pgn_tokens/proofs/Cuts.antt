@@ -1,6 +1,6 @@
--- The last byte of a token is a byte 10 (`\n`) only if the token is that one byte, so that a line begins after a token
--- exactly if it is a `\n`. Here: what is left after a token that doesn't begin with byte 10 comes after a byte other
--- than 10 (token_left), and a byte 10 is a token of its own (token_ten).
+-- No token has a byte 10 (`\n`) last but the token that is just this byte: what is left, if anything, after a token
+-- that doesn't begin with byte 10 comes after a byte other than 10 (token_left), and a byte 10 is a token of its own
+-- (token_ten). So a line begins after a token exactly if it is a `\n`. By cases of the token's kind.
 use Rattle.std.proofs.Common.{◌≡◌, ℕ, Bool, true, false, not, eqb, List, [], ◌∷◌, ◌++◌, refl, sym, ap, ◌∙◌, inl, inr, ◌⊎◌, append_assoc}
 use Rattle.std.specs.List.{list_all}
 use Rattle.std.proofs.lemmas.Bool.{and_parts}

@@ -1,6 +1,7 @@
 -- A gap is the white space and `%` lines between two parts of a tag. The definition skips it line by line
 -- (`after_gap`), the code byte by byte (`gap_left`, with flags for the state); both leave the same (gap_same). By
--- induction on the text, for all three states at once (GapIs).
+-- induction on the text, for all three states at once (GapIs). Also, a byte that is no white space is found at once at
+-- a text's front (next_at_once).
 use Rattle.std.proofs.Common.{◌≡◌, ℕ, suc, ◌+◌, ◌-◌, ◌≤◌, Bool, true, false, not, cond, eqb, List, [], ◌∷◌, length, get_or, take, drop, Some, refl, sym, ap, ◌∙◌, arith}
 use Rattle.std.specs.List.{list_all, join_with_byte, onto_first, prefix_len, take_while}
 use Rattle.std.proofs.{lemmas.Bool.Decides.nat_tests, lemmas.List.take_rest, lemmas.List.Splits.join_with_byte-slice_split}

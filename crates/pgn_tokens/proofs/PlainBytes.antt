@@ -1,5 +1,5 @@
 -- `split_string` passes the first bytes of a tag's string all at once, up to the first quote, backslash or `\n`. These
--- plain bytes, put before the string that the rest gives, are the whole string (plain_first).
+-- plain bytes, put before the string that the rest gives, are the whole string (plain_first). By induction on the text.
 use Rattle.std.proofs.Common.{◌≡◌, ℕ, suc, ◌+◌, Bool, true, false, not, cond, eqb, ◌||◌, List, [], ◌∷◌, take, drop, Option, refl, sym, ap, ◌∙◌, arith, ◌==◌}
 use Rattle.std.specs.List.{position_or_len}
 use Rattle.std.proofs.lemmas.Bool.{or_parts}

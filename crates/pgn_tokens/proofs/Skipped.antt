@@ -1,5 +1,6 @@
--- One step of skipping: in `after_gap` over a byte of white space, or a `%` line up to its end; in `after_brace` over a
--- comment up to its `}`, if it has one. What the definition leaves is the same from before the step as from after it.
+-- One step of skipping. A round of `after_gap` over a `%` line up to its end, or over a byte of white space, leaves as
+-- much of the gap as the definition does (gap_line_more, gap_blank_more). `after_brace` finds what the definition
+-- finds, without a `}` (no_brace) and with one (brace_found). By induction on the line or on the text before the `}`.
 use Rattle.std.proofs.Common.{◌≡◌, ℕ, suc, ◌+◌, ◌-◌, ◌<◌, ◌≤◌, Bool, true, false, not, cond, eqb, List, [], ◌∷◌, length, get_or, take, drop, add-one, Option, Some, None, refl, sym, ap, ◌∙◌, arith, ◌==◌, drop-cons}
 use Rattle.std.specs.List.{position_or_len}
 use Rattle.std.proofs.{lemmas.Bool.Decides.nat_tests, lemmas.List.drop_all, lemmas.List.take_rest}

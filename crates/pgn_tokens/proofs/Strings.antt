@@ -1,6 +1,7 @@
 -- A tag's string, byte by byte, as `split_string` goes over it: it ends at the first quote that no backslash keeps, and
 -- there is none if the line ends first. By the loop's invariant the bytes before an offset, put before the string of
--- the rest, are the whole string (the lemmas place_..).
+-- the rest, are the whole string; for each way through a round there is a lemma (place_kept, place_other, place_line,
+-- place_quote). Also, a tag without its `]` is a bad tag (tag_unclosed).
 use Rattle.std.proofs.Common.{◌≡◌, ◌≢◌, ℕ, ◌+◌, ◌-◌, ◌<◌, Bool, true, false, cond, eqb, List, [], ◌∷◌, ◌++◌, length, get_or, take, drop, Option, Some, None, refl, sym, ap, ◌∙◌, append_assoc, append-nil, add-one, arith, take-suc}
 use Rattle.std.proofs.{lemmas.Bool.Decides.nat_tests, lemmas.List.at_drop_more, lemmas.List.take_rest}
 use Rattle.std.specs.List.{prefix_len, take_while}

@@ -1,5 +1,6 @@
--- The last tag of a name among a game's tags, found token by token with the last one so far in hand (`last_from`), as
--- the loop of `last_tag` does it. A token more is one step (last_step).
+-- The last tag of a name among tokens, or else the one found before them (`last_from`), as the loop of `last_tag` keeps
+-- it. A token more is one step (last_step): its tag, if it has the name, replaces the one found before; a token that no
+-- tag may follow ends the tags.
 use Rattle.std.proofs.Common.{◌≡◌, ℕ, suc, ◌+◌, Bool, true, false, cond, List, ◌∷◌, take, Option, Some, None, refl, arith}
 use Rattle.std.specs.List.{cons_option, filter_map, last_or, prefix_len, take_while}
 use Rattle.std.specs.Option.{option_or}

@@ -1,6 +1,6 @@
--- Gaps, strings and tags: what the relations of specs/Split call one is read as that one (the lemmas .._read), and what
--- the reader finds is one by the relation (gap_goes, string_leaves, tag_leaves). The former is by induction on the
--- relation, the latter on the text.
+-- Gaps, strings and tags: what the relations of specs/Split call one is read as that one (gap_read, string_read,
+-- tag_read, by induction on the relation), and what the reader finds is one by the relation (gap_goes, string_leaves,
+-- tag_leaves, by induction on the text). A tag is put together from the lemmas on its parts.
 use Rattle.std.proofs.Common.{◌≡◌, ℕ, zero, suc, ◌+◌, ◌<◌, ◌≤◌, Bool, true, false, cond, eqb, List, [], ◌∷◌, ◌++◌, length, drop, Option, Some, None, IfSome, refl, sym, ap, subst, ◌∙◌, inl, inr, ◌⊎◌, arith, ◌&&◌, take-append-drop, append_assoc, length-append}
 use Rattle.std.specs.List.{list_all, list_any, prefix_len, take_while}
 use Rattle.std.proofs.lemmas.Bool.{and_parts, or_parts, or_cases, eqb-true}

@@ -1,5 +1,7 @@
--- The tags that are left from an offset on (`tags_left`), as an iterator over a game's tags returns them: the tag of
--- the next token, if it is one, and then those after it and after what is skipped (tags_more).
+-- For `next_tag` and the iterator over a game's tags. The tags that are left from an offset on (`tags_left`) are the
+-- tag of the next token, if it is one, and then those from after it and what is skipped (tags_more). So a round of the
+-- loop keeps its invariant (Reads), if the token is no tag (goes_on), and otherwise returns the first of the tags left
+-- (found_tag).
 use Rattle.std.proofs.Common.{◌≡◌, ◌≤◌, ℕ, suc, ◌+◌, ◌-◌, Bool, true, false, cond, List, [], ◌∷◌, ◌++◌, length, map, take, Option, Some, None, refl, sym, ap, ◌∙◌, arith, option_map}
 use Rattle.std.specs.List.{cons_option, filter_map, prefix_len}
 use Rattle.pgn_tokens.specs.{declared.tag_list.PgnTag.PgnTag, GameTags.tag_pair, GameTags.pair_of, GameTags.game_tags_of, LastTags.may_precede_tags, Tokens.Token, Tokens.Skip, Tokens.tokens_from, Seen.SkipsTo, ties.TagsLeft.tags_left}

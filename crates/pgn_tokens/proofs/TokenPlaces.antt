@@ -1,5 +1,6 @@
 -- A token names a tag's string, or the `{` of a comment that isn't closed, by how many bytes are left there. These are
--- within the token and the text after it (within), and so in the text (token_within). By cases of the token's kind.
+-- at most as many as are left where the token begins (within), for the first token from an offset on too
+-- (token_within). By cases of the token's kind, and of the fault.
 use Rattle.std.proofs.Common.{◌≡◌, ℕ, suc, ◌-◌, ◌≤◌, Bool, List, [], ◌∷◌, ◌++◌, length, drop, refl, sym, ap, subst, ◌∙◌, inl, inr, arith, length-append, length-drop}
 use Rattle.pgn_tokens.specs.Tokens.{Token, Skip, Tag, Word, Bad_tag, Unclosed_comment, Unclosed_variation, Bad, token_at, begins_line, tokens_from}
 use Rattle.pgn_tokens.specs.{Split.HasOpenComment, Split.here, Split.deeper, shared.Places.IsWithin}

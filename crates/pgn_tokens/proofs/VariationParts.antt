@@ -1,6 +1,7 @@
--- For the loop of `after_variation`. It skips part by part, a part being a comment, a skipped line or a byte, where the
--- definition goes byte by byte with a state; both read the same (part_is). A `(` opens one more variation, a `)` closes
--- one, so `depth` grows by at most one for each byte (depth_few).
+-- For the loop of `after_variation`, which skips a variation part by part: a comment, a skipped line or a byte. The
+-- definition goes byte by byte with a state; both read the same after each part (part_is), and the same fault at a
+-- comment without its `}` (part_unclosed), by induction on the line or comment that is skipped (in_line, in_brace). A
+-- byte opens at most one variation, so `depth` grows by at most one for each (depth_few).
 use Rattle.std.proofs.Common.{◌≡◌, ℕ, zero, suc, ◌+◌, ◌-◌, ◌≤◌, Bool, true, false, cond, eqb, List, [], ◌∷◌, length, get_or, take, drop, Option, Some, None, refl, sym, ap, ◌∙◌, inl, inr, add-one, arith, ◌&&◌, ◌||◌}
 use Rattle.std.proofs.{lemmas.Bool.Decides.nat_tests, lemmas.Bool.and_parts, lemmas.Bool.or_cases, lemmas.List.take_rest}
 use Rattle.pgn_tokens.specs.Tokens.{Token, Unclosed_comment, Unclosed_variation, Skip, line_end, after_brace, variation_at}

@@ -1,6 +1,7 @@
 -- For the loop of `has_variation`, which reads tokens only up to the text's last `(`, since a variation begins with
--- one. By its invariant (Sought) no token before the offset reached is a variation. Then one is found, or there is no
--- `(` any more (none_from), or no token.
+-- one. By its invariant (Sought) no token before the offset reached is a variation. A token that is none keeps this
+-- (sought_on). The search ends at a variation (found), where no `(` is left (none_left), at the text's end
+-- (none_to_end), and at what can't be read (none_readable).
 use Rattle.std.proofs.Common.{◌≡◌, ℕ, zero, suc, ◌+◌, ◌-◌, ◌<◌, ◌≤◌, Bool, true, false, ◌||◌, eqb, List, [], ◌∷◌, length, get_or, drop, refl, sym, ap, ◌∙◌, arith}
 use Rattle.std.specs.List.{position_or_len}
 use Rattle.std.proofs.lemmas.List.{get_or-drop, length-drop}

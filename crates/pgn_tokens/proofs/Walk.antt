@@ -1,6 +1,7 @@
 -- Going from token to token. Each takes at least a byte (shorter), so a bound of as many tokens as bytes is never
 -- reached (enough). So the tokens from an offset on are the first token there and then those from the offset after it
--- (token_more, next_token); a fault is the last.
+-- (token_more, next_token), which is nearer to the end; a fault is the last (last_token), and at the end there is none
+-- (no_token).
 use Rattle.std.proofs.Common.{◌≡◌, ℕ, zero, suc, ◌-◌, ◌<◌, ◌≤◌, Bool, true, false, eqb, List, [], ◌∷◌, ◌++◌, length, get_or, take, drop, refl, sym, ap, subst, ◌∙◌, inl, inr, ◌⊎◌, append_assoc, arith}
 use Rattle.std.proofs.lemmas.Bool.Decides.{nat_tests}
 use Rattle.std.proofs.lemmas.List.{length-append, length-drop, take-append-drop, get_or_at, drop_at, take_rest}

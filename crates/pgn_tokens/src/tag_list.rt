@@ -50,7 +50,7 @@ impl<'t> Model for GameTags<'t> {
     ghost invariant = { λ it. it.offset ≤ length it.text.now };
 }
 
-// The token as a tag of a text of `len` bytes; `None` if the token is no tag.
+// The token as a tag, with the offset of its string in a text of `len` bytes; `None` if the token is no tag.
 fn tag_in<'t>(len: usize, token: &Token<'t>) -> Option<PgnTag<'t>>
     ensures { option_map pair_of result ≡ tag_pair len (token_seen token.now) }
 {

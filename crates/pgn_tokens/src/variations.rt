@@ -31,7 +31,8 @@ fn next_parenthesis(text: &[u8], at: usize) -> usize
 }
 
 // The offset of the first `(` from the offset `at` on, where `known` is the offset of the first `(` from an earlier
-// offset on. The text is searched only if `known` comes before `at`, so that no byte is looked at twice.
+// offset on. The text is searched only if `known` comes before `at`, so that no byte is looked at twice. In the
+// contract `HasNone` says that no `(` comes from one offset up to another.
 fn parenthesis_from(text: &[u8], at: usize, known: usize) -> usize
     requires { at ≤ length text.now }
     ensures { (from : ℕ) → from ≤ at → HasNone text.now from known → HasNone text.now at result }
@@ -45,8 +46,8 @@ fn parenthesis_from(text: &[u8], at: usize, known: usize) -> usize
 
 /// Whether a token from the offset `at` on is a variation. If none is, and the game's text ends where `text` does,
 /// chess_pgn's `read_variations` has nothing to read, so its caller needs no board. Tokens are read only up to the
-/// text's last `(`: mostly none, as a game's text mostly has no `(`. A byte order mark at `at` is to be skipped by the
-/// caller.
+/// text's last `(`, so mostly none is read, as a game's text mostly has no `(`. A byte order mark at `at` is to be
+/// skipped by the caller.
 pub fn has_variation(text: &[u8], at: usize) -> bool
     requires { at ≤ length text.now }
     ensures { result ≡ has_variation text.now (tokens_from text.now at) }

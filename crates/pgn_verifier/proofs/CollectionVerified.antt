@@ -1,6 +1,7 @@
 -- For the loop of `verify_pieces`, which verifies a collection piece by piece (a piece is a part of the input that is
 -- read as a text of its own). By its invariant (SoFar) the reports on the pieces so far were written and counted. One
--- more piece keeps this (written_on); a failed write, the last piece and a failed read end it.
+-- more piece keeps this (written_on); a failed write (write_failed), the last piece (all_written) and a failed read
+-- (stopped) end it.
 use Rattle.std.proofs.Common.{◌≡◌, ℕ, ◌+◌, ◌*◌, ◌≤◌, ◌<◌, ◌^◌, Bool, true, false, not, List, [], ◌∷◌, ◌++◌, length, map, take, Some, None, Ok, Err, refl, sym, ap, subst, ◌∙◌, append_assoc, append-nil, arith, ap₂, take-take, if◌then◌else◌, nat_le, sum_by, flat_map, take_while}
 use Rattle.std.specs.Option.{option_map_or}
 use Rattle.pgn_tokens.specs.Tokens.{is_white_space}

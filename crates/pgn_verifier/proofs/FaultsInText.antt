@@ -1,6 +1,7 @@
 -- The offsets of faults that are looked for at a game's end are in the text, since each is of something there: of the
 -- tag `Result` (tag_within), of the game's end (board_within), or of a token in a beginning of the text, in which
--- variations are read (err_weaker). A game without a variation has no fault in one (none_without_variation).
+-- variations are read (err_weaker); so is the first of two (first_within). A game without a byte or a variation has no
+-- fault in one (none_without_bytes, none_without_variation).
 use Rattle.std.proofs.Common.{◌≡◌, ℕ, zero, suc, ◌<◌, ◌≤◌, ◌-◌, Bool, true, false, List, [], ◌∷◌, length, take, drop, Option, Some, None, Result, Ok, Err, IfErr, ap, sym, ◌∙◌, arith, if◌then◌else◌, IfSome}
 use Rattle.std.proofs.lemmas.List.{length-append, length-drop, nil_from_length, take-append-drop}
 use Rattle.byte_devices.specs.Bytes.{after_byte_order_mark}

@@ -1,5 +1,7 @@
--- The ends of `verify` and of a collection: after the lines (of a collection with the counts last) all is flushed; or a
--- write or the flush failed, and then a beginning of the lines was written; or memory ran out, and nothing was begun.
+-- The ends of `verify` and of a collection. The lines of a text are those of its reports, numbered from 1, and the
+-- verdict is by their counts (whole_lines, whole_counted); if the flush fails, they may be cut short (not_flushed). For
+-- a collection the counts come last and all is flushed (finished); or that fails (not_finished); or memory ran out
+-- before anything was read (not_begun).
 use Rattle.std.proofs.Common.{◌≡◌, ℕ, Bool, true, false, List, [], ◌++◌, Ok, Err, refl, ap, subst, ◌∙◌, append-nil}
 use Rattle.std.proofs.Math.Seq.{take-length}
 use Rattle.byte_devices.specs.Devices.{InputState, OutputState, Took, Sent, CutShort, TookThenFailed}

@@ -1,6 +1,6 @@
--- For the loop of `read_all`: its text is all that was read so far (HasRead). A piece more keeps this (more_read); the
--- loop ends at the input's end (all_read), at more than 16777216 bytes (too_long), or if there is no memory for a piece
--- (no_room).
+-- For the loop of `read_all`: its text is all that was read so far (HasRead), at most 16777216 bytes. A read more keeps
+-- this (more_read, still_few); the loop ends at the input's end (all_read), at more than 16777216 bytes (too_long), or
+-- if there is no memory for what a read gave (no_room).
 use Rattle.std.proofs.Common.{◌≡◌, ◌≤◌, ◌<◌, ◌-◌, ◌==◌, nat_eq, length-append, ◌∙◌, ℕ, List, [], ◌++◌, length, take, false, if◌then◌else◌, refl, ap, subst, append-nil, arith, length-take-le}
 use Rattle.std.specs.Io.KnownBytes.{Consumes}
 use Rattle.byte_devices.specs.Devices.{InputState, GavePiece, saturating_increment}

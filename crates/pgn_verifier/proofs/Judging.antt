@@ -1,6 +1,7 @@
 -- What is reported of a game, its end or its fault. `judge_past_draws` reads a game as if the draws of 2014 ended none,
--- and its answer is the definition's (none_judged, fault_judged, end_judged). The game that it leaves may have another
--- start, but has the same position and verdict (Stands), so a fault is explained alike by both (explained_alike).
+-- and its answer is the definition's (none_judged, fault_judged, end_judged), with offsets in the text (ends_later,
+-- fault_read) and a byte for each half-move (few_read). The game that it leaves may have another start, but has the
+-- same position and verdict (Stands), so faults are explained alike (explained_alike).
 use Rattle.std.proofs.Common.{◌≡◌, ◌∙◌, ◌<◌, ◌≤◌, ◌+◌, ◌++◌, ℕ, Bool, false, List, [], length, Option, Some, None, IfErr, IfOk, IfSome, Result, Ok, Err, ap, codes, if◌then◌else◌, subst, sym}
 use Rattle.std.specs.Option.{option_map_or}
 use Rattle.byte_devices.specs.Bytes.{after_byte_order_mark}

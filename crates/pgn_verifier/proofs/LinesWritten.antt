@@ -1,6 +1,7 @@
--- Reports on games are written as lines, numbered on, and counted. Lines and counts of some reports, and then of more,
--- are those of all (took_after, counted_after); where a write fails, a beginning of all lines was written
--- (broke_after). `t` and `u` are the counts before and after the first ones.
+-- Reports on games are written as lines, numbered on, and counted. The lines and counts of some reports and then of
+-- more are those of all (took_after, counted_after, all_counted, by induction on the reports); where a write fails, a
+-- beginning of all lines was written (broke_after, first_broke). `t` and `u` are the counts before and after the first
+-- ones.
 use Rattle.std.proofs.Common.{◌≡◌, ℕ, ◌+◌, cond, not, List, [], ◌∷◌, ◌++◌, length, Result, Ok, Err, refl, sym, ap, subst, ◌∙◌, append_assoc, append-nil, arith, count_by, sum_by}
 use Rattle.std.proofs.lemmas.List.Sums.{sum_by-cons}
 use Rattle.byte_devices.specs.Devices.{OutputState, Took, CutShort}

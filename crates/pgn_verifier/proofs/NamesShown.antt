@@ -1,5 +1,6 @@
--- What a line shows of a tag such as White is from the last tag of that name, as `shown_tag` defines it. The code's
--- contract names a split of the text into tokens; a text has only one, so it is the definition's (`tokens_from`).
+-- What a line shows of a tag such as White is from the last tag of that name, as `shown_tag` defines it (shown_is). The
+-- contract of `tag_text` names some split of the text into tokens; a text has only one, so it is the definition's
+-- (`tokens_from`). Also, a piece that is too long has no names to show (unnamed).
 use Rattle.std.proofs.Common.{◌≡◌, ℕ, Bool, true, false, List, map, take, Option, Some, None, refl, ap, ◌∙◌, if◌then◌else◌, codes}
 use Rattle.std.specs.Option.{option_map, option_map_or}
 use Rattle.byte_devices.specs.Bytes.{shown_byte}

@@ -1,5 +1,7 @@
--- For `Place`, which counts lines and columns on from one offset of a text to a later one: the line and column found so
--- are those of the later offset in the input (known_on), and they don't overflow.
+-- For `Place`, which counts lines and columns on from one offset of a text to a later one: they are known at the text's
+-- beginning (known_at_start), and so at each later offset, by the bytes between (known_on), which also bound them, so
+-- that they don't overflow. Then where a fault's wrong part is (either_moved), and that pieces are in place in a longer
+-- text too (piece_there).
 use Rattle.std.proofs.Common.{◌≡◌, ◌≤◌, ◌<◌, ℕ, ◌+◌, ◌-◌, eqb, Bool, true, false, not, cond, List, ◌++◌, length, take, drop, refl, sym, ap, ◌∙◌, append_assoc, length-drop, arith, take-add, if◌then◌else◌, reverse}
 use Rattle.std.specs.List.{prefix_len, suffix_len, sum_by}
 use Rattle.std.proofs.{lemmas.Bool.Decides.nat_tests, lemmas.List.Folds.prefix_len-append, lemmas.List.Sums.count_by-le-length, lemmas.List.Sums.prefix_len-le-length, lemmas.List.Sums.sum_by-append}

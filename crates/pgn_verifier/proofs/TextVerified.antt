@@ -1,6 +1,7 @@
 -- For the loop of `verify_text`, which verifies the games of a text one after another. By its invariant (SoFar) the
--- reports on the games before the offset `at` were written and counted. A game, or a fault after which reading goes on,
--- keeps this; no game left, any other fault and a failed write end the loop.
+-- reports on the games before the offset `at` were written and counted. A game keeps this (game_written), and so does a
+-- fault after which reading goes on (fault_passed). The loop ends if no game is left (all_written), after any other
+-- fault (fault_written), and if a write fails (game_broke, fault_broke).
 use Rattle.std.proofs.Common.{◌≡◌, ℕ, zero, suc, ◌+◌, ◌≤◌, ◌<◌, Bool, List, [], ◌∷◌, ◌++◌, length, Option, Some, None, Result, Ok, Err, refl, sym, ap, subst, ◌∙◌, append_assoc, append-nil, arith, if◌then◌else◌}
 use Rattle.std.specs.Option.{option_map_or}
 use Rattle.byte_devices.specs.Devices.{OutputState, Took, CutShort}

@@ -1,5 +1,6 @@
 -- A piece of a collection that is too long to be read is reported as a fault, with a line that explains it if that is
--- asked for. The lines that `too_long_lines` makes are those of the definition (lines_are).
+-- asked for. The lines that `too_long_lines` makes are those of the definition (lines_are), since each part of them is;
+-- so they were written, and counted (too_long_written), or broke off (too_long_broke).
 use Rattle.std.proofs.Common.{◌≡◌, ℕ, ◌+◌, Bool, true, List, [], ◌∷◌, ◌++◌, Some, None, Ok, Err, refl, sym, ap, subst, ◌∙◌, append-nil, if◌then◌else◌}
 use Rattle.std.specs.Option.{option_map_or}
 use Rattle.byte_devices.specs.Devices.{OutputState, Took, CutShort}

@@ -1,5 +1,6 @@
 -- What `verify` and `verify_collection` did to input and output together, as their contracts say it (`Ran`), put
--- together from what was read and what was written: one lemma for each way in which they end.
+-- together from what was read and what was written. A lemma for each way to end: of a text not_all_read, not_all_exit,
+-- no_memory, text_verified, text_broke_off; of a collection collection_verified, collection_broke_off, reading_stopped.
 use Rattle.std.proofs.Common.{◌≡◌, ℕ, Bool, true, false, List, Result, Ok, Err, IsErr, refl, sym, subst, append-nil, IfErr}
 use Rattle.byte_devices.specs.Devices.{InputState, OutputState, Took, Sent, CutShort}
 use Rattle.byte_devices.specs.Transfers.{InputGave, Ran, nothing, all_of, all_unflushed}

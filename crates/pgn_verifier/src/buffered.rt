@@ -67,8 +67,8 @@ fn finish<W: Output>(
 /// Reads all games of the input and writes a line for each: `game 1: 4 half-moves, 0-1`, and after that
 /// `, time forfeit` or the like if its last tag `Termination` has a known text. The first game with a fault gets the
 /// line `game 2: illegal move at byte 39`, and no game after it is read. `options` say which lines are left out,
-/// whether results are compared, and whether a line follows that explains the fault. After `Ok` nothing is unflushed,
-/// not even what was written before this call.
+/// whether lines show spans and names, which faults are looked for at a game's end, and whether a line follows that
+/// explains the fault. After `Ok` nothing is unflushed, not even what was written before this call.
 ///
 /// # Errors
 /// If a device fails, memory runs out, or the input has more than 16,777,216 bytes. If the output failed, a beginning

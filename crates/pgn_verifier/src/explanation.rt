@@ -278,7 +278,7 @@ fn append_position<B: Board>(lines: &mut FaultLines, kind: FaultKind, game: &Gam
     }
 }
 
-// Appends where a fault is, such as `# line 2 column 4 `.
+// Appends the line and the column of the part that is explained, such as `# line 2 column 4 `.
 fn append_place(lines: &mut FaultLines, line: usize, column: usize)
     requires { array_vec_len lines.old + 60 ≤ FAULT_LINES_LEN }
     ensures text { lines.new.items ≡ lines.old.items
@@ -325,8 +325,9 @@ fn append_explanation<B: Board>(
     append_reason(lines, kind, text, ending(draws_of_2014, game));
 }
 
-/// The lines on a fault of the game: its own, and with `options.explain` the one that explains it. `text` is the text
-/// in which the fault is; `place` is the offset that the explanation is about, with its line and column.
+/// The lines on a fault of the game: its own, and with `options.explain` the one that explains it. `label` has what the
+/// lines say of the game; `text` is the text in which the fault is; `place` is the offset that the explanation is
+/// about, with its line and column. In the contract `input` is any input in which these are right (`IsHere`).
 pub(crate) fn fault_lines<B: Board>(
     options: VerifyOptions,
     label: &FaultLabel,
@@ -371,7 +372,8 @@ pub(crate) fn fault_lines<B: Board>(
 }
 
 /// The lines on a piece that is too long: the fault at its first byte, and with `explain` the line that explains it.
-/// `beginning` has the piece's first 40 bytes.
+/// `label` has what the lines say of the piece; `start` is where it begins; `beginning` has its first 40 bytes. In the
+/// contract `input` is any input in which `start` has the right line (`StandsIf`).
 pub(crate) fn too_long_lines(
     explain: bool,
     label: &FaultLabel,

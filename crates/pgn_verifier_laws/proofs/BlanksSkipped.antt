@@ -1,5 +1,6 @@
--- White space before a game is skipped: reading from an offset on gives the same as reading from the game's first byte
--- on (begins_alike), since a skipped token changes nothing (one_skipped).
+-- White space before a game is skipped, since a skipped token in front changes nothing (one_skipped, end_skipped): from
+-- its first byte on a game is read the same as from an offset before the white space (begins_alike), and after a fault
+-- it is read on at the same offset (goes_on_alike). The first byte isn't before that offset (begins_later).
 use Rattle.std.proofs.Common.{◌≡◌, ℕ, ◌+◌, ◌-◌, ◌<◌, ◌≤◌, ◌||◌, ◌==◌, eqb, Bool, true, false, cond, List, [], ◌∷◌, length, take, drop, None, one-add, refl, sym, ap, ◌∙◌, arith, drop-drop, codes, slice_get}
 use Rattle.std.specs.{List.filter_map, List.prefix_len, Option.option_map_or}
 use Rattle.std.proofs.lemmas.Bool.Decides.{nat_tests}

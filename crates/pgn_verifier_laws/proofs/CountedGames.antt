@@ -1,6 +1,7 @@
 -- Games that are counted are games by the Laws, by what `GamesAreOfTokens` says of their tokens: each move's word
--- denotes just one legal move, no verdict came before the last move, and a marker ends the game (has_game). So it is
--- for all reports on a text (has_games) and on a piece (counted_games_of_pieces).
+-- denotes just one legal move (`told`, by induction on the words), no verdict came before the last move (unended), and
+-- a marker ends the game (ended_at). So it is for all reports on a text (counted_games) and on a piece
+-- (counted_games_of_pieces), by induction on the reports.
 use Rattle.std.proofs.Common.{◌≡◌, ◌∙◌, ℕ, zero, suc, ◌+◌, ◌-◌, ◌<◌, Bool, true, false, List, [], ◌∷◌, ◌++◌, length, take, Option, Some, None, Ok, refl, sym, ap, subst, append_assoc, append-nil, arith, MatchBool, if◌then◌else◌, nat_le}
 use Rattle.std.specs.{List.filter, List.list_all, Option.option_map_or, Option.unwrap_or}
 use Rattle.chess_base.specs.{Initial.initial_setup_of, MoveList.moves, Sound.IsSound, declared.man.Move.Move, declared.man.Variant.Variant, declared.setup.Setup.Setup}

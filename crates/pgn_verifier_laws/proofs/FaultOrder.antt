@@ -1,5 +1,5 @@
 -- Which fault is reported of a game that has several, and which draws are passed over, by computation: each row of a
--- definition in specs/FaultOrder is one equation.
+-- definition in specs/FaultOrder is one equation. Two rows are for any state with 75 moves, and follow from that.
 use Rattle.std.proofs.Common.{Option, refl, ap, option_and_then}
 use Rattle.chess_game.specs.declared.verdicts.Verdict.{Verdict}
 use Rattle.chess_pgn.specs.GameRead.{not_of_2014}

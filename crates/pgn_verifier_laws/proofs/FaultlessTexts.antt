@@ -1,6 +1,7 @@
--- If no fault is reported on a text's pieces, then their reports are those on the text. A piece whose reports are all
--- on games holds whole games (part_holds), and if all parts of a text hold whole games, the reports on the text are
--- those on the parts (Parts). For this no piece may end with `\r`, and only the first may begin with a byte order mark.
+-- If no fault is reported on a text's pieces, then their reports are those on the text (faultless_alike). A piece whose
+-- reports are all on games holds whole games (part_holds), and if all parts of a text hold whole games, the reports on
+-- the text are those on the parts (Parts). For this no piece may end with `\r`, and only the first may begin with a
+-- byte order mark.
 use Rattle.std.proofs.Common.{◌≡◌, ℕ, zero, suc, ◌+◌, ◌-◌, ◌<◌, ◌≤◌, Bool, true, false, cond, count_by, sum_by, ap₂, eqb, not, List, [], ◌∷◌, ◌++◌, length, get_or, drop, take, Option, Some, None, Result, Ok, Err, refl, sym, ap, subst, ◌∙◌, inl, inr, ◌⊎◌, append_assoc, append-nil, length-append, arith, bytes_eq, nat_le, if◌then◌else◌, ◌&&◌, ◌||◌}
 use Rattle.std.specs.List.{concat, flat_map, list_all, list_any}
 use Rattle.std.proofs.{lemmas.Bool.and_parts, lemmas.Bool.or_parts, lemmas.Bool.eqb-true, lemmas.Bool.Decides.nat_tests, lemmas.List.get_or_at, lemmas.List.reverse-append, Math.Path.fun_ext, lemmas.List.Folds.list_all-append, lemmas.List.Folds.sum_by-zero, lemmas.List.Sums.sum_by-cons}

@@ -1,6 +1,6 @@
--- The reports on a collection's files, one after another, are those on the collection: the pieces of the files are
--- those of the collection (pieces_of_files), and a piece's reports only move with its offset (moved_in). Counts are
--- sums over the reports, so they add up (summed).
+-- The reports on a collection's files, one after another, are those on the collection (files_alike): the pieces of the
+-- files are those of the collection (pieces_of_files, by induction on the files), and a piece's reports only move with
+-- its offset (moved_in). Counts are sums over the reports, so they add up (summed).
 use Rattle.std.proofs.Common.{◌≡◌, ℕ, zero, suc, ◌+◌, Bool, true, false, List, [], ◌∷◌, ◌++◌, length, map, drop, Option, Some, None, Result, Ok, Err, refl, sym, ap, ◌∙◌, ◌&&◌, append-nil, length-append, arith, ap₂, cond, if◌then◌else◌, nat_le, nat_lt, not, is_some}
 use Rattle.std.specs.List.{onto_first, concat, flat_map, sum_by}
 use Rattle.std.specs.Option.{option_map_or, unwrap_or}

@@ -1,6 +1,6 @@
--- A game without a fault that is read in one text is read in another, if the tokens that it has are there too (`fits`):
--- token by token, the reader goes on alike in both (found), and the game's end comes at the same distance from the
--- beginning.
+-- A game without a fault that is read in the text `old` is read in `new`, if each token that `old` has in the game's
+-- bytes is there in `new` too (Fits): token by token, by induction on the split, the reader goes on alike in both, and
+-- the game's end comes at the same distance from the beginning (found).
 use Rattle.std.proofs.Common.{◌≡◌, ℕ, ◌+◌, ◌-◌, ◌<◌, ◌≤◌, Bool, List, ◌∷◌, ◌++◌, length, drop, Some, Ok, refl, sym, ap, subst, ◌∙◌, length-append, arith, is_some, length-drop}
 use Rattle.chess_game.specs.Game.{State, verdict_now}
 use Rattle.chess_pgn.specs.{GameRead.GameRead, GameRead.declared_after, laws.WordKinds.word_kind, declared.read.PgnEnd.PgnEnd, declared.read.PgnFaultKind.TheVariants.NoResult}

@@ -1,5 +1,6 @@
--- Without a fault the reports on a text are the same, whether reading goes on after faults or not (same_of): only after
--- a fault does that matter. `a` and `b` are two choices.
+-- `a` and `b` are two choices whether reading goes on after faults. If by the one all reports on a text are on games
+-- without a fault, then by the other they are the same (same_of), since the choice matters only after a fault. By
+-- induction on how many games may come.
 use Rattle.std.proofs.Common.{◌≡◌, ℕ, zero, suc, ◌+◌, Bool, true, false, List, ◌∷◌, length, Option, Some, None, Result, Ok, Err, refl, ap}
 use Rattle.std.specs.List.{list_all}
 use Rattle.chess_game.specs.Game.{State}

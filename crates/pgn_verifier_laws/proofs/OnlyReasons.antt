@@ -1,5 +1,5 @@
--- `IsReason` holds for no other reason than the one that `reason` gives: by cases of the fault, and for a bad tag by
--- cases of the first part that it lacks.
+-- `IsReason` holds for no other reason than the one that `reason` gives (only_reason): by cases of the fault, and for a
+-- bad tag by cases of the first part that it lacks (one_reason).
 use Rattle.std.proofs.Common.{◌≡◌, ℕ, List, Option, Some, refl, sym, ap, subst, ◌∙◌}
 use Rattle.chess_game.specs.declared.verdicts.Verdict.{Verdict}
 use Rattle.pgn_tokens.specs.Tokens.{after_next}

@@ -1,6 +1,7 @@
--- No other reports meet the definitions than those that are made by reading games one after another: a game is judged
--- in one way (only_judged), so a text has one list of reports (one_list), and so have a piece and a collection. Without
--- their spans the reports are the plain ones (same_of).
+-- No other reports meet the definitions than those made by reading games one after another: a game is judged in one way
+-- (only_judged), as a text has one split, so a text has one list of reports (only_reports), and so has a collection
+-- (only_collection_reports). Without their spans the reports are the plain ones (same_on, same_of_collection). By
+-- induction on the reports, the pieces, and how many games may come.
 use Rattle.std.proofs.Common.{◌≡◌, ℕ, zero, suc, ◌+◌, Bool, List, [], ◌∷◌, ◌++◌, length, drop, Option, Some, None, true, false, not, ◌&&◌, is_some, nat_lt, Result, Ok, Err, refl, sym, ap, subst, ◌∙◌, append-nil, flat_map, MatchBool, nat_le, if◌then◌else◌}
 use Rattle.std.proofs.{Math.Path.ap₂, Math.Path.fun_ext, lemmas.List.map-append}
 use Rattle.std.specs.Option.{option_map_or, unwrap_or}

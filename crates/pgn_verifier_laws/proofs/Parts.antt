@@ -1,6 +1,7 @@
--- A game that is read in a text is read in each part of it that holds the game (in_parts), so a part that holds whole
--- games has the same reports alone as it has in the text (alone, in_text), and so have all parts of a text together
--- (reported_alone, whole). The law for pieces is the last.
+-- A game that is read in a text is read in each part of it that holds the game (in_parts), as its tokens are the same
+-- there (GamesAlike). So a part that holds whole games has the same reports alone as in the text (reported_alike), and
+-- so have all parts together (reported_alone, all_reported_alike) and a text's pieces (pieces_alike). By induction on
+-- the games of a part, and on the parts.
 use Rattle.std.proofs.Common.{◌≡◌, ℕ, zero, suc, ◌+◌, ◌-◌, ◌<◌, ◌≤◌, true, false, List, [], ◌∷◌, ◌++◌, length, take, drop, Option, Some, None, Ok, Err, refl, sym, ap, subst, ◌∙◌, append_assoc, append-nil, length-append, arith, le-leb, is_some, nat_le, if◌then◌else◌}
 use Rattle.std.specs.{List.concat, List.flat_map, List.list_all, Option.option_map_or}
 use Rattle.std.proofs.Math.Seq.{drop-length, take-length}

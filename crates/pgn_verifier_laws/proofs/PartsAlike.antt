@@ -1,6 +1,7 @@
--- What is alike in a text and in a part of it, whose offsets differ: bytes and beginnings of lines (there, lines),
--- steps of the reader, which differ only in the offsets of faults (OnOrFails), tags (HaveSameTags), and what
--- contradicts a game's result (agrees).
+-- What is alike in a text and in a part of it, whose offsets differ: bytes and beginnings of lines (there, lines);
+-- steps of the reader, which differ only in the offsets of faults (OnOrFails, does, tags_alike); tags (HaveSameTags),
+-- so also the variant and the result (same_variant, same_result, same_known); and what contradicts a game's result
+-- (agrees). What can't be read is the game's fault (faults_stop).
 use Rattle.std.proofs.Common.{◌≡◌, ℕ, zero, suc, ◌+◌, ◌-◌, ◌<◌, ◌≤◌, Bool, true, false, cond, eqb, List, [], ◌∷◌, ◌++◌, length, get_or, take, drop, Option, Some, None, Result, Ok, Err, refl, sym, ap, ◌∙◌, arith, bytes_eq, is_some, nat_lt, not, codes, map, if◌then◌else◌, ◌&&◌, option_and_then}
 use Rattle.std.specs.List.{last_or, cons_option, prefix_len}
 use Rattle.std.specs.Option.{option_map, option_map_or, option_or, option_eq}

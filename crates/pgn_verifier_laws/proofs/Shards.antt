@@ -1,6 +1,7 @@
--- A text that is cut in two before a tag line, after a line of moves, has the pieces of the one part and then those of
--- the other: the tag line begins a piece anyway (joins), and the lines of both parts are the lines of the text
--- (lines_joined).
+-- For the law `shards_are_cut`: a text that is cut in two before a tag line, after a line of moves and any empty lines,
+-- has the pieces of the one part and then those of the other. Empty lines begin no piece (stays), so the piece before
+-- has the line of moves, and the tag line begins one (joins, by induction on the lines before it). The lines of both
+-- parts are the lines of the text (lines_joined).
 use Rattle.std.proofs.Common.{◌≡◌, ℕ, eqb, Bool, true, false, List, [], ◌∷◌, ◌++◌, length, take, refl, sym, ap, ap₂, ◌∙◌, arith, bytes_eq, if◌then◌else◌, ◌&&◌, ◌||◌, nat_lt, ◌==◌, codes}
 use Rattle.std.specs.List.{onto_first, concat, list_any, list_all}
 use Rattle.std.proofs.{lemmas.Bool.and_left, lemmas.Bool.or_left, lemmas.Bool.eqb-true, lemmas.List.Folds.list_any-append}

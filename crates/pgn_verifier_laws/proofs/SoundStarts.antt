@@ -1,5 +1,6 @@
--- The start of a game that was read is sound: a FEN that is read gives a sound position with 64 squares (fen_sound),
--- since it is refused where one of the conditions fails, and no other token changes the start (token_sound).
+-- The start of a game that was read is sound, if the variant's initial position is (start_sound, by induction on the
+-- tokens): a FEN that is read gives a sound position with 64 squares (fen_sound), since it is refused where one of the
+-- conditions fails, and no other token changes the start (token_sound).
 use Rattle.std.proofs.Common.{◌≡◌, ◌∙◌, ℕ, zero, suc, ◌*◌, Bool, true, false, eqb, List, [], ◌∷◌, ◌++◌, length, length-append, map, take, drop, Option, Some, None, Result, Ok, Err, refl, sym, ap, subst, arith, codes, if◌then◌else◌, max, option_and_then, ◌==◌}
 use Rattle.std.specs.{List.slice_split, List.flat_map, Option.ok_or, Option.option_map, Option.option_map_or}
 use Rattle.std.proofs.lemmas.Bool.Decides.{nat_tests}

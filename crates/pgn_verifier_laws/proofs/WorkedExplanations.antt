@@ -1,5 +1,6 @@
 -- Names of faults, parts of texts that are shown for them, and reasons, by computation: each row of a definition in
--- specs/WorkedExplanations is one equation.
+-- specs/WorkedExplanations is one equation. Some rows are for any state; where its FEN is said to be `FEN`, that is put
+-- in (last_is_shown, reason_is_last).
 use Rattle.std.proofs.Common.{◌≡◌, ℕ, List, [], ◌++◌, Some, None, codes, refl, ap}
 use Rattle.std.specs.Fmt.{digits}
 use Rattle.chess_base.specs.Initial.{initial_setup, initial_setup_of}

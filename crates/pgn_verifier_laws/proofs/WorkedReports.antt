@@ -1,5 +1,6 @@
 -- Lines of reports, spans of games, where texts are read on, and pieces of collections, by computation: each row of a
--- definition in specs/WorkedReports is one equation.
+-- definition in specs/WorkedReports is one equation. In rows that are for any text or collection with two reports,
+-- these are given as a hypothesis.
 use Rattle.std.proofs.Common.{[], refl}
 use Rattle.std.specs.Fmt.{digits}
 use Rattle.chess_pgn.specs.GameRead.{pgn_read}

@@ -1,5 +1,5 @@
--- A game as it is written has no fault: it is read back, its variant is known, and neither its tag Result nor the board
--- contradicts its outcome (nothing_contradicts).
+-- A game as it is written has no fault (written_games): it is read back (by a law, an argument here), its variant is
+-- known, and neither its tag Result nor the board contradicts its outcome (nothing_contradicts).
 use Rattle.std.proofs.Common.{◌≡◌, ℕ, Bool, true, false, List, [], ◌++◌, length, Option, Some, None, Ok, Err, refl, sym, ap, subst, ◌∙◌, option_and_then, if◌then◌else◌}
 use Rattle.std.specs.Option.{option_map, option_map_or, option_or}
 use Rattle.chess_game.specs.{Ends.verdict_result, Game.outcome_now, Game.verdict_now, Results.same_outcome, declared.game.TheConstants.MOST_MOVES, declared.results.Declared.Declared, declared.results.Outcome.Outcome, declared.verdicts.Verdict.Verdict}

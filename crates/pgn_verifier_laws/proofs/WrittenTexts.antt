@@ -1,6 +1,7 @@
--- Written games, one after another, have no fault. A game's text ends with two line feeds (text_ends), after which
--- nothing more is read (none_after), so each game's text alone has one report, which is on that game (one_report). By
--- Parts all texts together have these reports (all_reports).
+-- Written games, one after another, have no fault (written_texts). A game's text ends with two line feeds (text_ends),
+-- after which nothing more is read (none_after), so each game's text alone has one report, which is on that game
+-- (one_report). Each such text is a part that holds one whole game (all_held, by induction on the games), so by Parts
+-- all texts together have these reports (all_reports).
 use Rattle.std.proofs.Common.{◌≡◌, ℕ, zero, suc, ◌+◌, ◌-◌, ◌<◌, Bool, false, List, [], ◌∷◌, ◌++◌, length, drop, Some, None, Ok, refl, sym, ap, subst, ◌∙◌, inl, inr, ◌⊎◌, append_assoc, append-nil, length-append, arith, map}
 use Rattle.std.specs.List.{concat, flat_map, list_all}
 use Rattle.std.proofs.{Math.Seq.drop-append-add, lemmas.Grind.flat_map-append}

@@ -57,7 +57,8 @@ HasGames draws text from (PlainGame plies outcome termination ∷ reports) =
     (to : ℕ) × HasGame draws text from to plies outcome × HasGames draws text to reports
 HasGames draws text from (PlainFault fault wrong_at explanation ∷ reports) = (to : ℕ) × HasGames draws text to reports
 
--- the games that `verify` counts in a text are games; `start`: the input's offset at which the text begins
+-- the games that `verify` counts in a text, up to its first fault, are games; `start`: the input's offset at which the
+-- text begins
 abbrev pub CountedGamesAreGames : Type 0
 CountedGamesAreGames = (strict : Strictness) (start : ℕ) (text : List ℕ) (reports : List Placed)
     → AreReports false strict start text 0 reports → HasGames strict.draws_of_2014 text 0 (without_spans reports)

@@ -44,7 +44,8 @@ unfinished_at_90 = record { outcome = Unfinished; termination = None; offset = 9
 abbrev pub fault_at : FaultKind → ℕ → Result (Option PgnEnd) GameFault
 fault_at kind offset = Err (record { kind = kind; offset = offset })
 
--- the first of these that is looked for is reported: the variation, the variant, the tag, the board
+-- the first of these that is looked for is reported: the variation, the variant, the tag, the board; and three more
+-- examples
 pub record FaultsAreInOrder : Type 0 where
   pub variation_first : found true true true true ≡ fault_at (InVariation IllegalMove) 60
   -- with `--strict`, but not `--variations`

@@ -1,4 +1,4 @@
--- A text whose pieces have no fault has the same reports as a whole.
+-- When a text whose pieces have no fault has the same reports as a whole.
 use Rattle.std.specs.Prelude.{◌≡◌, Bool, true, false, List, [], ◌∷◌, take, drop, reverse, ℕ}
 use Rattle.std.specs.List.{list_any}
 use Rattle.std.specs.Str.{bytes_eq}

@@ -13,8 +13,8 @@ abbrev pub begins_in_tag : List (List ℕ) → Bool
 begins_in_tag [] = false
 begins_in_tag (line ∷ lines) = is_tag_line line
 
--- a text that is divided after a line of moves and any empty lines, and before a tag line, has the pieces of its first
--- part and then those of its second
+-- a text that is divided after a line of moves and any empty lines, right after a `\n` (byte 10), and before a tag
+-- line, has the pieces of its first part (`front` and that `\n`) and then those of its second (`rest`)
 abbrev pub ShardsAreCut : Type 0
 ShardsAreCut = (front rest : List ℕ) → ends_in_moves (lines_of (front ++ 10 ∷ [])) ≡ true
     → begins_in_tag (lines_of rest) ≡ true → cut ((front ++ 10 ∷ []) ++ rest) ≡ cut (front ++ 10 ∷ []) ++ cut rest

@@ -13,14 +13,14 @@ pub data MakeUp : ℕ → List ℕ → List Placed → Type 0 where
       → placed.begin ≡ offset + length between → placed.end ≡ placed.begin + length game → 0 < length game
       → MakeUp placed.end rest reports → MakeUp offset (between ++ (game ++ rest)) (placed ∷ reports)
 
--- a text is made up of the spans of its reports, in order, and of what lies between them (`MakeUp`). It begins at the
--- offset `start` of the input
+-- a text is made up of the spans of its reports (up to the first fault), in order, and of what lies before, between and
+-- after them (`MakeUp`). It begins at the offset `start` of the input
 abbrev pub SpansMakeUpTheText : Type 0
 SpansMakeUpTheText = (strict : Strictness) (start : ℕ) (text : List ℕ) (reports : List Placed)
     → AreReports false strict start text 0 reports → MakeUp start text reports
 
--- a collection is made up of the spans of its reports and of what lies between them; without the input's end (`ended`
--- is false) its last piece isn't reported
+-- a collection is made up of the spans of its reports, in order, and of what lies before, between and after them;
+-- without the input's end (`ended` is false) its last piece isn't reported
 abbrev pub SpansMakeUpTheCollection : Type 0
 SpansMakeUpTheCollection = (strict : Strictness) (ended : Bool) (text : List ℕ) (reports : List Placed)
     → AreCollectionReports strict 0 (known_pieces ended text) reports → MakeUp 0 text reports

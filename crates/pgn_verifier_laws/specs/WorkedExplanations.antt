@@ -52,7 +52,8 @@ field_shown text fault = wrong_part (Pgn (BadFen fault)) (codes text) 0 6
 abbrev pub wrong_clock : Text
 wrong_clock = "[FEN \"8/8 w KQ e3 x 9\"] *"
 
--- what is shown of a text, and from which byte on
+-- which part of a text is shown for a fault, and from which byte on; how texts are shown; and the position and the
+-- reason after the part
 pub record PartsAreShown : Type 0 where
   -- the wrong field of a FEN (PGN standard of 1994, section 16.1.3)
   pub side : field_shown wrong_clock faults.Side ≡ (10, codes "w")

@@ -91,7 +91,8 @@ cut_off text = record { text = text; early = []; ended = false; failed = true; s
 abbrev pub AreWritten : VerifyOptions → Text → Type 0
 AreWritten options text = report_lines options [] 1 both ≡ codes text
 
--- the lines of reports, and that of their counts
+-- what is written: the lines of reports and that of their counts, with some options; all of a text and of a collection
+-- with these reports, of an empty collection, and if a read fails
 pub record ReportsAreWritten : Type 0 where
   pub plainly : AreWritten plain "game 1: 2 half-moves, 0-1, time forfeit\ngame 2: illegal move at byte 39\n"
   -- a game without a fault is left out, but has a number
@@ -166,7 +167,7 @@ is_left (Faulty fault names wrong_at part why is_unread) = is_unread
 abbrev pub leaves_bytes : Placed → Bool
 leaves_bytes p = is_left p.report
 
--- where a text is read on after a game whose first word is no move
+-- where a text is read on after a game with a fault, how far that game's span goes, and whether bytes are left unread
 pub record TextsAreReadOn : Type 0 where
   -- after the game's marker, whatever comes before that
   pub marker : IsReadOnAt "e9 1-0 *" (Some 6)
@@ -194,7 +195,7 @@ pub record TextsAreReadOn : Type 0 where
 abbrev pub AreItsPieces : Text → List (List ℕ) → Type 0
 AreItsPieces text pieces = cut (codes text) ≡ pieces
 
--- a tag line of more than 256 bytes, with this second tag
+-- a tag line of more than 256 bytes: one tag, then this text, which begins as a second tag does, and spaces
 abbrev pub long_line : Text → List ℕ
 long_line second = codes "[Event \"a\"] " ++ codes second ++ replicate 250 32 ++ codes "\n"
 

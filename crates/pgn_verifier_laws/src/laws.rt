@@ -26,9 +26,9 @@ use chess_base::{Position, Variant};
 use chess_pgn_laws::{a_game_is_tags_and_moves, games_are_of_tokens, pgn_is_read_back};
 use chess_text::read_moves_are_legal;
 
-/// States a law and does nothing: a game is judged in one way only, and a text and a collection have one list of
-/// reports only: those made by reading games one after another. Without their spans (`Plain`) they are the reports of
-/// which the other laws speak.
+/// States a law and does nothing: a game is judged in one way only, and a text (up to its first fault) and a collection
+/// have one list of reports only: those made by reading games one after another. Without their spans (`Plain`) they are
+/// the reports of which the other laws speak.
 pub fn reports_are_the_only_ones()
     ensures game { (strict : Strictness) (text : List ℕ) (at : ℕ)
         → IsJudged strict text at (read_at strict.draws_of_2014 text at).state (judged_at strict text at) }
@@ -73,8 +73,9 @@ pub fn written_texts_have_no_fault()
 
 /// States a law and does nothing: a game that is read in a text without a fault, from a byte of one of its parts on,
 /// and that ends in that part, is read in the part alone, if the part begins where a line begins, and a byte order mark
-/// is skipped in both or in neither. So where the pieces of a text of at most 16,777,216 bytes hold whole games,
-/// `verify` and `verify_collection` report the same games. Variations aren't looked at.
+/// is skipped in both or in neither. So a part that holds whole games has the same reports alone as in the text; all
+/// such parts of a text together have its reports; and where the pieces of a text of at most 16,777,216 bytes hold
+/// whole games, `verify` and `verify_collection` report the same games. Variations aren't looked at.
 pub fn games_are_in_parts()
     ensures game { GamesAreInParts }
     ensures reports { WholeGamesAreReportedAlike }
@@ -97,7 +98,7 @@ pub fn a_text_without_faults_is_reported_alike()
 }
 
 /// States a law and does nothing: the spans that `verify --spans` writes of a text or of a collection are in order,
-/// don't overlap, and have a byte or more; with what lies between them they are the text.
+/// don't overlap, and have a byte or more; with what lies before, between and after them they are the text.
 pub fn spans_make_up_the_text()
     ensures text { SpansMakeUpTheText }
     ensures collection { SpansMakeUpTheCollection }
@@ -106,11 +107,11 @@ pub fn spans_make_up_the_text()
     a_game_is_tags_and_moves();
 }
 
-/// States a law and does nothing: a game that `verify` counts is a game by the Laws. It has a sound start, and as many
-/// moves as the report says, one for each word between the tags and the termination marker that is no number and no
-/// marks. Each move is legal where it is made, and the one legal move that its word denotes. Before the last one no
-/// verdict had ended the game: neither mate, stalemate nor a dead position, nor, unless they are ignored, fivefold
-/// repetition or 75 moves. The next game begins where this one ends.
+/// States a law and does nothing: a game that `verify` counts in a text, or with `--keep-going` in a piece, is a game
+/// by the Laws. It has a sound start, and as many moves as the report says, one for each word between the tags and the
+/// termination marker that is no number and no marks. Each move is legal where it is made, and the one legal move that
+/// its word denotes. Before the last one no verdict had ended the game: neither mate, stalemate nor a dead position,
+/// nor, unless they are ignored, fivefold repetition or 75 moves. The next game begins where this one ends.
 ///
 /// It refuses a move after mate, a word that is passed over, and a report of another number of half-moves.
 pub fn counted_games_are_games()
@@ -127,9 +128,9 @@ pub fn counted_games_are_games()
     let _fischerandom_sound = fischerandom.setup();
 }
 
-/// States a law and does nothing: if a text is divided in two after a line of moves and any empty lines, and before a
-/// tag line, its pieces are those of the first part and then those of the second. So a large collection may be divided
-/// there into parts (shards), which are verified one by one.
+/// States a law and does nothing: if a text is divided in two after a line of moves and any empty lines, right after a
+/// `\n`, and before a tag line, its pieces are those of the first part and then those of the second. So a large
+/// collection may be divided there into parts (shards), which are verified one by one.
 pub fn shards_are_cut()
     ensures { ShardsAreCut }
 {}
@@ -146,8 +147,9 @@ pub fn files_are_verified_alike()
 
 /// States a law and does nothing: of a game that has several faults at its end the first of these is reported that is
 /// looked for: a fault in a variation, a variant that isn't known, a tag Result that differs from the marker, a verdict
-/// of the board that differs from it. This is worked out for an example. With `--ignore after-end` a game may continue
-/// after fivefold repetition and 75 moves, and after no other end.
+/// of the board that differs from it. This is worked out for an example. Three more examples: a tag Result that names
+/// no result differs from the marker, the marker `*` contradicts a mate, and a fault of reading comes before all of
+/// these. With `--ignore after-end` a game may continue after fivefold repetition and 75 moves, and after no other end.
 ///
 /// It refuses the board before the tag.
 pub fn faults_are_in_order()
@@ -157,9 +159,9 @@ pub fn faults_are_in_order()
 
 /// States a law and does nothing: examples of what `verify` reports are worked out. Byte by byte: the lines of some
 /// reports, of their counts and of an explanation, with some options, and what is written of a text and of a collection
-/// with two reports. Also where two games of a text begin and end; where some texts are read on after a fault; into
-/// which pieces some texts are cut; how each fault is named, which part of a text is shown for it, and for which
-/// reasons.
+/// with two reports, of an empty collection, and if a read fails. Also where two games of a text begin and end; where
+/// some texts are read on after a fault; into which pieces some texts are cut; how each fault is named, which part of a
+/// text is shown for it, and for which reasons.
 ///
 /// It refuses a game that is numbered only if it is shown, Black's name before White's, white space that belongs to the
 /// game after it, a result that is read again after a fault, an Event line that begins no piece, or begins one after

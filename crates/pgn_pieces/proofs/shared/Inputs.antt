@@ -1,4 +1,6 @@
--- For crates that take pieces from an input: what was read of it, and what is read afterwards.
+-- For crates that read an input bit by bit. What was read of it so far: at first nothing (nothing_read); after a read
+-- that gave bytes, these too, and after one that gave none, its end (read_on); after one that failed, that it broke off
+-- there (broke_off).
 use Rattle.std.proofs.Common.{◌≡◌, ℕ, ◌==◌, Bool, true, false, if◌then◌else◌, List, [], ◌++◌, length, refl, ap, subst, append-nil, ◌∙◌, arith}
 use Rattle.std.proofs.lemmas.Bool.Decides.{nat_tests}
 use Rattle.byte_devices.specs.Devices.{InputState, GavePiece, FailedToRead, saturating_increment}

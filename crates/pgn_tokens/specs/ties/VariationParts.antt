@@ -3,8 +3,9 @@ use Rattle.std.specs.Prelude.{ℕ, zero, suc, ◌+◌, Bool, ◌&&◌, ◌||◌,
 use Rattle.byte_devices.specs.Bytes.{byte}
 use Rattle.pgn_tokens.specs.Tokens.{line_end, after_brace}
 
--- the text after the byte `c` inside a variation, or after the `%` line, `;` comment or `{` comment that it begins;
--- `None` if that comment isn't closed. `rest` is the text after `c`; `line_begins`: `c` is the first byte of its line
+-- the text after the byte `c` inside a variation, or after what it begins: a `%` line or `;` comment (the text goes on
+-- at its `\n`) or a `{` comment; `None` if that `{` comment isn't closed. `rest` is the text after `c`; `line_begins`:
+-- `c` is the first byte of its line
 abbrev pub after_part : Bool → ℕ → List ℕ → Option (List ℕ)
 after_part line_begins c rest = if line_begins && c == byte "%"
     || c == byte ";" then Some (line_end rest) else (if c == byte "{" then after_brace rest else Some rest)

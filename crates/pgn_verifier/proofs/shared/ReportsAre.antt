@@ -1,6 +1,7 @@
 -- The reports that are made game by game (`placed_on`, and for a collection piece by piece) are those that the
--- relations ask for (`IsJudged`, `AreReports`, `AreCollectionReports`). The relations speak of some split of the text
--- into tokens; the tokens that are read one after another (`tokens_from`) are such a split.
+-- relations ask for (judged_is, are_reports, are_collection_reports). The relations speak of some split of the text
+-- into tokens; the tokens that are read one after another (`tokens_from`) are such a split. By induction on a bound for
+-- the number of games left, and on the pieces.
 use Rattle.std.proofs.Common.{◌≡◌, ℕ, zero, suc, ◌+◌, ◌<◌, ◌≤◌, Bool, List, [], ◌∷◌, length, drop, Option, Some, None, IfSome, true, false, not, ◌&&◌, is_some, nat_lt, Result, Ok, Err, IfOk, refl, sym, ap, subst, arith, flat_map, MatchBool, nat_le, if◌then◌else◌}
 use Rattle.std.specs.Option.{option_map_or, unwrap_or}
 use Rattle.chess_game.specs.{Game.State, declared.game.TheConstants.MOST_MOVES, declared.verdicts.Verdict.Verdict}

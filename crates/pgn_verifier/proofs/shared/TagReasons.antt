@@ -1,5 +1,7 @@
--- The reason that `reason` gives for a fault is right by the relation `IsReason` (reason_is). For a bad tag it is the
--- part that the tag lacks, found by reading part by part: name, quote, string, bracket (tag_reason_is).
+-- The reason that `reason` gives for a fault is right by the relation `IsReason` (reason_is), by cases of the fault.
+-- For a bad tag it is the first part that the tag lacks: name, quote, string or bracket (tag_reason_is). What the
+-- relation calls the opening of a tag is read as one (opened), and a name that is read after a `[` is one by the
+-- relation (name_found).
 use Rattle.std.proofs.Common.{◌≡◌, ℕ, ◌<◌, Bool, true, false, cond, eqb, List, [], ◌∷◌, ◌++◌, length, Option, Some, None, refl, sym, ap, subst, ◌∙◌, arith, codes, is_some}
 use Rattle.std.specs.{List.list_all, Option.option_map_or}
 use Rattle.std.proofs.lemmas.Bool.{and_parts, eqb-true}

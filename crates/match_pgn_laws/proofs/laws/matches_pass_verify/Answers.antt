@@ -1,5 +1,5 @@
--- Written games have no fault, and those of a match are legal and end at a verdict (the laws that are called), so
--- `verify` accepts them (Verified).
+-- The games of a match are legal, end at a verdict and have the outcomes reported, and written games have no fault (the
+-- laws that are called), so `verify` accepts what the match wrote above its score (Verified.matches_pass_verify).
 use Rattle.match_pgn_laws.proofs.Verified.{matches_pass_verify}
 use Rattle.match_pgn_laws.proofs.laws.matches_pass_verify.Goals as goal
 

@@ -1,4 +1,5 @@
--- After each tag or comment one fewer is passed over; where none begins that is closed, the text stays (Parts).
+-- After each part, such as a tag or a comment, one fewer may be passed over (Parts.one_fewer). The text stays where no
+-- part begins, or begins but isn't closed (Parts.stays), and after the last that may be passed (stays_without_more).
 use Rattle.std.proofs.Common.{◌+◌, ◌-◌, refl, sym, ◌∙◌, arith}
 use Rattle.pgn_pieces.proofs.Parts.{one_fewer, stays, stays_without_more}
 use Rattle.pgn_pieces.proofs.line_kinds.after_more_parts.Goals as goal

@@ -1,5 +1,5 @@
--- After its first tag a line has 255 more tags and the like at most (Parts.one_fewer); where none begins, what is left
--- stays (Parts.stays).
+-- If the first tag isn't closed, nothing is passed over (Parts.stays). Otherwise 255 more parts may be
+-- (Parts.one_fewer), and where none begins what is left stays (Parts.no_part).
 use Rattle.std.proofs.Common.{◌≡◌, Some, None, refl, sym, ap, ◌∙◌}
 use Rattle.pgn_pieces.specs.{Pieces.after_part, ties.Fronts.after_value}
 use Rattle.pgn_pieces.proofs.Parts.{at_tag, no_part, one_fewer, stays}

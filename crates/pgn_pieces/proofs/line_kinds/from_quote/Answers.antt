@@ -1,4 +1,6 @@
--- From mark to mark (StringEnds): a quote ends the loop, and a backslash keeps the byte after it.
+-- From mark to mark, a mark being a quote or a backslash, by lemmas of StringEnds: the first mark is found
+-- (quote_after_mark), a backslash keeps the byte after it from closing the string (kept_on) and leaves a shorter text
+-- (shorter_on), and a quote, or the text's end, ends the loop (closed).
 use Rattle.std.proofs.Common.{◌≡◌, ◌∙◌, false, drop, ap, sym}
 use Rattle.pgn_pieces.specs.{Pieces.from_quote, ties.Fronts.from_mark}
 use Rattle.pgn_pieces.proofs.StringEnds.{begins_with_mark, closed, kept_on, mark_first, quote_after_mark, shorter_on}

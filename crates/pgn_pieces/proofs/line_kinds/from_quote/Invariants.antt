@@ -1,5 +1,5 @@
--- The loop's invariant: `rest` begins with a quote or a backslash, and the first quote in it that no backslash keeps is
--- that of the whole text.
+-- The loop's invariant: `rest` is empty or begins with a quote or a backslash, and the first quote in it that no
+-- backslash keeps is that of the whole text. What decreases is the length of `rest`.
 use Rattle.std.proofs.Common.{◌≡◌, List, ℕ, length, false, true}
 use Rattle.pgn_pieces.specs.Pieces.{from_quote}
 use Rattle.pgn_pieces.proofs.StringEnds.{begins_with_mark}

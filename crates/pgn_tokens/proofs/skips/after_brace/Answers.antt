@@ -1,4 +1,5 @@
--- Without a brace all bytes come before it (Skipped.no_brace); else the text goes on after it (Skipped.brace_found).
+-- If no `}` was found, the number of bytes before it is the text's length, and the definition finds none either
+-- (Skipped.no_brace); else the text after it is the definition's (Skipped.brace_found).
 use Rattle.std.proofs.Common.{arith}
 use Rattle.pgn_tokens.proofs.Skipped.{no_brace, brace_found}
 use Rattle.pgn_tokens.proofs.skips.after_brace.Goals as goal

@@ -1,4 +1,5 @@
--- The loop's invariant: the gap that is left to skip ends where the whole gap ends.
+-- The loop's invariant: the gap that is left to skip ends where the whole gap ends; `line_begins` says whether a line
+-- begins at the rest. What decreases is the number of bytes left.
 use Rattle.std.proofs.Common.{◌≡◌, length, false}
 use Rattle.pgn_tokens.specs.{Tokens.after_gap, shared.Gaps.gap_left}
 use Rattle.pgn_tokens.proofs.skips.after_gap.Given as goal

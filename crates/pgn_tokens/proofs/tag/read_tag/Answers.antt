@@ -1,5 +1,5 @@
 -- The exit where no `]` follows: the name and the string were read, and by the definition too this is no tag
--- (Strings.tag_unclosed).
+-- (Strings.tag_unclosed). The check finds the other exits by itself.
 use Rattle.std.proofs.Common.{sym, ap, ◌∙◌}
 use Rattle.pgn_tokens.specs.ties.FirstSeen.{tag_seen}
 use Rattle.pgn_tokens.proofs.Strings.{tag_unclosed}

@@ -1,4 +1,5 @@
--- The loop's invariant: the string that goes on from `offset`, with the bytes before it, is the whole string.
+-- The loop's invariant: the string that continues at `offset`, with the bytes before it, is the whole string; `is_kept`
+-- says whether a backslash keeps the byte at `offset`. What decreases is the number of bytes from `offset` on.
 use Rattle.std.proofs.Common.{◌≡◌, ◌-◌, length, drop, take}
 use Rattle.pgn_tokens.specs.Tokens.{onto, string_at}
 use Rattle.pgn_tokens.proofs.Strings.{string_after}

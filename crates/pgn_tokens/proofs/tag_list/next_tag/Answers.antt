@@ -1,5 +1,6 @@
--- By the invariant the tags from `offset` on are those from `at` on. The token there gives its own tag, if it is one,
--- and the tags after it are left (TagsLeft.tags_more).
+-- By the invariant the tags from `offset` on are those from `at` on. If the token there is no tag, the loop continues
+-- after it and what is skipped (TagsLeft.goes_on); if it is one, it is the first of these tags, and the others come
+-- after it (found_tag).
 use Rattle.std.proofs.Common.{sym, ◌∙◌, rules}
 use Rattle.pgn_tokens.specs.Seen.{token_seen}
 use Rattle.pgn_tokens.proofs.TagsLeft.{goes_on, found_tag}

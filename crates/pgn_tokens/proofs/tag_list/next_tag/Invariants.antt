@@ -1,4 +1,5 @@
--- The loop's invariant: the tags from `offset` on are those from `at` on (Reads of TagsLeft).
+-- The loop's invariant: the tags from `offset` on are those from `at` on (Reads of TagsLeft). What decreases is the
+-- number of bytes after `offset`.
 use Rattle.std.proofs.Common.{length, ◌-◌}
 use Rattle.pgn_tokens.proofs.TagsLeft.{Reads}
 use Rattle.pgn_tokens.proofs.tag_list.next_tag.Given as goal

@@ -1,5 +1,5 @@
--- The tag was found among the tokens that are read, and these are a split of the text (Splits.read_split), as the
--- contract asks for.
+-- The tag found, or that there is none, is by the tokens that are read, and these are a split of the text
+-- (Splits.read_split), as the contract asks for.
 use Rattle.pgn_tokens.specs.Tokens.{tokens_from}
 use Rattle.byte_devices.specs.Bytes.{after_byte_order_mark}
 use Rattle.pgn_tokens.proofs.Splits.{read_split}

@@ -1,5 +1,5 @@
--- A byte of white space or a dot is a token of its own that is skipped, so a round skips one token more
--- (SkippedTokens.blank_more).
+-- At first nothing is skipped (SkippedTokens.none_yet). A byte of white space or a dot is a token of its own that is
+-- skipped, so a round skips one token more (blank_more).
 use Rattle.std.proofs.Common.{sym, ◌∙◌, arith}
 use Rattle.pgn_tokens.proofs.SkippedTokens.{none_yet, blank_more}
 use Rattle.pgn_tokens.proofs.token.after_blanks.Goals as goal

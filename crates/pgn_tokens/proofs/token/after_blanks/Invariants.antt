@@ -1,4 +1,5 @@
--- The loop's invariant: each byte from `at` to `offset` is skipped as a token of its own.
+-- The loop's invariant: each byte from `at` to `offset` is skipped as a token of its own, and `offset` is in the text.
+-- What decreases is the number of bytes after `offset`.
 use Rattle.std.proofs.Common.{◌≤◌, ◌-◌, length}
 use Rattle.pgn_tokens.specs.Seen.{SkipsTo}
 use Rattle.pgn_tokens.proofs.token.after_blanks.Given as goal

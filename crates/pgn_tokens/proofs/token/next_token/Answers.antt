@@ -1,5 +1,6 @@
--- The token at the first byte that is left begins the list of tokens from there on, and the list goes on at the offset
--- after it, which is nearer to the end (Walk.next_token).
+-- By Walk the token at the first byte that is left begins the list of tokens from there on, and the list goes on at the
+-- offset after it, which is nearer to the end; a fault is the last (last_token), and where no byte is left there is
+-- none (no_token_left). A word, which the code splits off directly, is that token too (FirstWords.next_word).
 use Rattle.std.proofs.Common.{refl, sym, ◌∙◌, arith}
 use Rattle.pgn_tokens.specs.Seen.{token_seen, fault_seen}
 use Rattle.pgn_tokens.proofs.FirstWords.{next_word}

@@ -1,4 +1,5 @@
--- The loop's invariant: with `depth` variations open inside it, the variation ends in `rest` where it ends in the text.
+-- The loop's invariant: with `depth` variations open inside it, the variation ends in `rest` where it ends in the text;
+-- and `depth` is at most the number of bytes skipped so far. What decreases is the number of bytes left.
 use Rattle.std.proofs.Common.{◌≡◌, ◌+◌, ◌≤◌, suc, false, None, length}
 use Rattle.pgn_tokens.specs.Tokens.{variation_at}
 use Rattle.pgn_tokens.proofs.variation.after_variation.Given as goal

@@ -1,5 +1,6 @@
--- A token that is no variation keeps the invariant (VariationsSought.sought_on). The search ends at a variation, after
--- the last `(`, at the text's end and at what can't be read, each by one lemma of VariationsSought.
+-- At first no token was looked at, and no `(` comes before the first one (VariationsSought.none_before). A token that
+-- is no variation keeps the invariant (sought_on), as the next `(` is found from after it on. The search ends at a
+-- variation, after the last `(`, at the text's end and at what can't be read, each by one lemma of VariationsSought.
 use Rattle.std.proofs.Common.{refl, sym, ◌∙◌, arith}
 use Rattle.pgn_tokens.specs.Seen.{token_seen}
 use Rattle.pgn_tokens.proofs.VariationsSought.{none_before, none_left, none_to_end, none_readable, found, sought_on}

@@ -1,4 +1,6 @@
--- Before the first `(` there is none (VariationsSought.none_before), also from a later offset on (none_later).
+-- No `(` comes before the offset returned: if the text was searched from `at` on, that is the first `(`
+-- (VariationsSought.none_before); else it is the one known, and what holds from an earlier offset on holds from `at` on
+-- (none_later).
 use Rattle.pgn_tokens.proofs.VariationsSought.{none_before, none_later}
 use Rattle.pgn_tokens.proofs.variations.parenthesis_from.Goals as goal
 

@@ -1,5 +1,6 @@
--- The contract of `game_end` speaks of some split of the text into tokens; there is only one, that of the definition
--- (split_read). After a fault at what can't be read no end is looked for, and there is none (UnreadFaults.none_after).
+-- Two exits. After a fault at what can't be read no end is looked for, and by the definition there is none
+-- (UnreadFaults.none_after). Otherwise the end is what `game_end` found: its contract speaks of some split of the text
+-- into tokens, and there is only one, that of the definition (split_read).
 use Rattle.std.proofs.Common.{◌∙◌, ap, sym, length, None, if◌then◌else◌}
 use Rattle.byte_devices.specs.Bytes.{after_byte_order_mark}
 use Rattle.chess_pgn.specs.GameEnds.{game_end}

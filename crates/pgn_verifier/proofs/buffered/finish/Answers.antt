@@ -1,5 +1,6 @@
--- The lines written are those of the definition, numbered from 1 (Finished.whole_lines), and then they are flushed; if
--- the flush fails, they may be cut short (Finished.not_flushed).
+-- The lines written are those of the definition, numbered from 1 (Finished.whole_lines), the verdict is by their counts
+-- (whole_counted), and then they are flushed. If a write fails, a beginning of them was written; if the flush fails,
+-- they may be cut short (Finished.not_flushed).
 use Rattle.std.proofs.{Common.subst, lemmas.Result.err_from_is_err_and}
 use Rattle.byte_devices.specs.Devices.{Took, CutShort}
 use Rattle.byte_devices.proofs.shared.Devices.{sent_on}

@@ -1,6 +1,6 @@
--- By the invariant `text` is what was read so far. A piece more keeps this (InputRead.more_read); at the end, with too
--- many bytes, or without memory for more, the loop ends (InputRead.all_read, too_long, no_room). Each read leaves one
--- fewer that can succeed.
+-- By the invariant `text` is what was read so far, at most 16777216 bytes. A read more keeps this (InputRead.more_read,
+-- still_few); at the end, with too many bytes, or without memory for more, the loop ends (InputRead.all_read, too_long,
+-- no_room). Each read leaves one fewer that can succeed.
 use Rattle.std.proofs.Common.{◌≡◌, ◌<◌, ◌++◌, length, take, arith}
 use Rattle.pgn_verifier.proofs.InputRead.{all_read, more_read, no_room, too_long, still_few}
 use Rattle.std.proofs.lemmas.Result.{err_from_is_err_and}

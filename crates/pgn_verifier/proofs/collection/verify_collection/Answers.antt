@@ -1,5 +1,6 @@
--- If memory runs out before the first piece, nothing was read and nothing written (Finished.not_begun). After the lines
--- of all pieces the counts were written, and all was flushed (Finished.finished).
+-- If memory runs out before the first piece, nothing was read and nothing written (Finished.not_begun). If verifying
+-- the pieces fails, that is the result. After the lines of all pieces the counts were written, and all was flushed
+-- (Finished.finished); or that failed (Finished.not_finished).
 use Rattle.std.proofs.lemmas.Result.{err_from_is_err_and}
 use Rattle.pgn_verifier.proofs.Finished.{finished, not_begun, not_finished}
 use Rattle.pgn_verifier.proofs.collection.verify_collection.Goals as goal

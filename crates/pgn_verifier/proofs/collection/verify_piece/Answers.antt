@@ -1,5 +1,6 @@
--- A piece is verified as a text of its own (the contract of `verify_text`). One that is too long has a single report,
--- whose lines were written or broke off (TooLong.too_long_written, too_long_broke).
+-- A piece that is too long has a single report, whose lines were written or broke off (TooLong.too_long_written,
+-- too_long_broke); they are explained at the piece's first byte (stands_there). Any other piece is verified as a text
+-- of its own, for which the contract of `verify_text` is enough.
 use Rattle.std.proofs.Common.{true, ◌∙◌, refl, sym, subst}
 use Rattle.byte_devices.specs.{Devices.Took, Devices.CutShort, declared.traits.WriteFault.WriteFault}
 use Rattle.pgn_pieces.specs.Stream.{current}

@@ -1,5 +1,6 @@
--- By the invariant the pieces so far were reported (CollectionVerified.SoFar). One more piece keeps this; a failed
--- write, the last piece and a read that failed each end the loop by one lemma of CollectionVerified.
+-- By the invariant the pieces so far were reported (CollectionVerified.SoFar), and their bytes bound the counts and the
+-- line, so nothing overflows. One more piece keeps this; a failed write, the last piece and a read that failed each end
+-- the loop by one lemma of CollectionVerified.
 use Rattle.std.proofs.{Common.sym, Common.subst, Common.arith, lemmas.Result.err_from_is_err_and}
 use Rattle.pgn_pieces.specs.Stream.{State}
 use Rattle.pgn_verifier.specs.declared.tally.Tally.{Tally}

@@ -1,5 +1,6 @@
--- The loop's invariant: the pieces before this one were reported (SoFar of CollectionVerified). What decreases is how
--- far the end of the current piece is from 2 ^ 63 bytes, the most that a collection may have.
+-- The loop's invariant: the pieces before this one were reported (SoFar of CollectionVerified), and `game` takes at
+-- most 20,000 half-moves. What decreases is how far the end of the current piece is from 2 ^ 63 bytes, the most that a
+-- collection may have.
 use Rattle.std.proofs.Common.{◌≡◌, length, ◌+◌, ◌-◌, ◌^◌}
 use Rattle.pgn_verifier.proofs.CollectionVerified.{SoFar}
 use Rattle.pgn_verifier.proofs.collection.verify_pieces.Given as goal

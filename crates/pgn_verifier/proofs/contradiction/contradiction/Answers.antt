@@ -1,4 +1,6 @@
--- A fault of the tag `Result` and one of the board are both in the text, so the first of them is (FaultsInText).
+-- That the fault is in the text: it is the first of two, one of the tag `Result` and one of the board, and both are in
+-- the text (FaultsInText.first_within); the board's is at the game's end (board_within), if it is looked for at all
+-- (looked_within).
 use Rattle.std.proofs.Common.{length, sym, subst}
 use Rattle.chess_pgn.specs.GameRead.{ending}
 use Rattle.pgn_verifier.specs.GameFaults.{board_says_otherwise}

@@ -1,5 +1,5 @@
--- The fault is in the text (FaultsInText.tag_within). The contract of `result_tag` speaks of some list of tokens that
--- the text is split into; there is only one (split_read).
+-- The fault is in the text (FaultsInText.tag_within), and is the definition's: the contract of `result_tag` speaks of
+-- some list of tokens that the text is split into, and there is only one (split_read).
 use Rattle.std.proofs.Common.{◌≡◌, length, ap, sym, subst, ◌∙◌, arith}
 use Rattle.std.proofs.lemmas.Grind.{common_steps}
 use Rattle.chess_pgn.specs.ResultTags.{result_tag_of}

@@ -1,5 +1,5 @@
--- The fault returned is one of two, the first that the game has. Both are in the text, so it is too
--- (FaultsInText.first_within).
+-- That the fault is in the text: it is the first of two, one in a variation and one of the others at the game's end,
+-- and both are in the text (FaultsInText.first_within).
 use Rattle.std.proofs.Common.{length, sym, subst}
 use Rattle.pgn_verifier.proofs.FaultsInText.{InText, first_within}
 use Rattle.pgn_verifier.proofs.end_faults.end_fault.Goals as goal

@@ -1,5 +1,5 @@
--- The contract of `unknown_variant` speaks of some split of the text into tokens; there is only one, that of the
--- definition (split_read).
+-- The fault, or that there is none, is the definition's: the contract of `unknown_variant` speaks of some split of the
+-- text into tokens, and there is only one, that of the definition (split_read).
 use Rattle.std.proofs.Common.{◌≡◌, length, ap, ◌∙◌, arith}
 use Rattle.std.proofs.lemmas.Grind.{common_steps}
 use Rattle.chess_pgn.specs.UnknownVariants.{unknown_variant_in}

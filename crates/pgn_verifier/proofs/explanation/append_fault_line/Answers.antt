@@ -1,5 +1,5 @@
--- The code appends the parts one by one, so `++` groups them to the left, and the definition groups them to the right:
--- the text is the same.
+-- The line of a fault, with its span and names, is the definition's. The code appends its parts one by one, so `++`
+-- groups them to the left, and the definition groups them to the right: the text is the same.
 use Rattle.std.proofs.Common.{append_assoc}
 use Rattle.pgn_verifier.specs.Reports.{report_line}
 use Rattle.pgn_verifier.proofs.explanation.append_fault_line.Goals as goal

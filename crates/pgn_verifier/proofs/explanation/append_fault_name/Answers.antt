@@ -1,4 +1,5 @@
--- The name of a fault in a variation has two parts, appended one after the other.
+-- The name of a fault in a variation is the definition's: its two parts are appended one after the other, so only the
+-- grouping of `++` differs.
 use Rattle.std.proofs.Common.{append_assoc}
 use Rattle.pgn_verifier.proofs.explanation.append_fault_name.Goals as goal
 

@@ -1,5 +1,5 @@
--- The code appends the parts one by one, so `++` groups them to the left, and the definition groups them to the right:
--- the text is the same.
+-- What is appended for a verdict, such as ` | 0-1 {Black mates}`, is the definition's. The code appends its parts one
+-- by one, so `++` groups them to the left, and the definition groups them to the right: the text is the same.
 use Rattle.std.proofs.Common.{append_assoc}
 use Rattle.chess_game.specs.Ends.{result_text}
 use Rattle.pgn_verifier.proofs.explanation.append_verdict.Goals as goal

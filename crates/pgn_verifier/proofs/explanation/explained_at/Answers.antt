@@ -1,5 +1,5 @@
--- For a fault whose wrong part isn't at the game's beginning: this part begins as many bytes after the fault's offset
--- as the definition says, which is within the text.
+-- The exit for a fault whose wrong part isn't at the game's beginning: this part begins as many bytes after the fault's
+-- offset as the definition says (`part_on`), which is within the text.
 use Rattle.std.proofs.Common.{◌≤◌, ◌+◌, length, drop, sym, ap, subst, ◌∙◌, length-drop, arith, if◌then◌else◌}
 use Rattle.pgn_verifier.specs.ties.Explaining.{part_on}
 use Rattle.byte_devices.proofs.shared.Devices.{rest_is}

@@ -1,5 +1,6 @@
--- The line and the column that are shown are those of the definition. The code appends the parts one by one, so `++`
--- groups them to the left, and the definition groups them to the right: the text is the same.
+-- The exit where faults are explained. The line and the column shown are the input's at the part that is wrong
+-- (Placed.either_moved says where that is). The code appends the parts one by one, so `++` groups them to the left, and
+-- the definition groups them to the right: the text is the same.
 use Rattle.std.proofs.Common.{◌≡◌, ◌+◌, [], ◌++◌, drop, sym, ap, ◌∙◌, append_assoc, if◌then◌else◌}
 use Rattle.pgn_pieces.specs.Places.{line_of, column_of}
 use Rattle.pgn_verifier.specs.{Explanations.shown, Explanations.explanation_line, laws.Reported.is_at_begin, ties.Explaining.explanation_of, ties.Explaining.part_on, ties.OnTheWay.fault_line, ties.OnTheWay.span_written}

@@ -1,5 +1,6 @@
--- The code appends the parts one by one, so `++` groups them to the left, and the definition groups them to the right:
--- the text is the same.
+-- The exit where faults are explained. The line and the column shown are the input's at the piece's first byte. The
+-- code appends the parts one by one, so `++` groups them to the left, and the definition groups them to the right: the
+-- text is the same.
 use Rattle.std.proofs.Common.{append_assoc}
 use Rattle.pgn_verifier.specs.Explanations.{explanation_line}
 use Rattle.pgn_verifier.proofs.explanation.too_long_lines.Goals as goal

@@ -1,5 +1,6 @@
--- The loop's invariant: the games before `at` were reported (SoFar of TextVerified), and `place`, from which lines and
--- columns are counted on, has the right ones (Known). What decreases is the number of bytes after `at`.
+-- The loop's invariant: the games before `at` were reported (SoFar of TextVerified); `place`, from which lines and
+-- columns are counted on, has the right ones (Known); and `game` takes at most 20,000 half-moves. What decreases is the
+-- number of bytes after `at`.
 use Rattle.std.proofs.Common.{◌≡◌, List, length, ◌-◌}
 use Rattle.pgn_verifier.specs.{Reports.Placed, ties.Counting.Known}
 use Rattle.pgn_verifier.proofs.TextVerified.{SoFar}

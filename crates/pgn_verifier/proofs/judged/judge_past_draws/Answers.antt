@@ -1,6 +1,6 @@
 -- What was read of the game without the draws of 2014 is judged as the definition does: no game, a fault, or an end
--- with perhaps a fault there (Judging.none_judged, fault_judged, end_judged). The end is in the text
--- (Judging.ends_later).
+-- with perhaps a fault there (Judging.none_judged, fault_judged, end_judged). The end and the fault are in the text
+-- (Judging.ends_later, fault_read), and each half-move has a byte (few_read).
 use Rattle.std.proofs.Common.{◌≡◌, ◌∙◌, None, Some, rules, sym}
 use Rattle.pgn_verifier.specs.declared.game_fault.FaultKind.TheVariants.{Pgn}
 use Rattle.pgn_verifier.proofs.Judging.{end_judged, ends_later, fault_judged, fault_read, few_read, none_judged}

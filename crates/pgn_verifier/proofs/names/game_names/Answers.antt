@@ -1,5 +1,5 @@
--- The code appends the parts one by one, so `++` groups them to the left, and the definition groups them to the right:
--- the text is the same.
+-- The end of a line that names a game by its players, event and date is the definition's. The code appends its parts
+-- one by one, so `++` groups them to the left, and the definition groups them to the right: the text is the same.
 use Rattle.std.proofs.Common.{append_assoc}
 use Rattle.pgn_verifier.proofs.names.game_names.Goals as goal
 

@@ -1,5 +1,5 @@
--- The code appends the parts one by one, so `++` groups them to the left, and the definition groups them to the right:
--- the text is the same.
+-- The line of a game without a fault is the definition's. The code appends its parts one by one, so `++` groups them to
+-- the left, and the definition groups them to the right: the text is the same.
 use Rattle.std.proofs.Common.{append_assoc}
 use Rattle.pgn_verifier.specs.Reports.{report_line}
 use Rattle.pgn_verifier.proofs.report.game_line.Goals as goal

@@ -1,5 +1,6 @@
--- A game that is counted is that of its tokens, whose moves are legal (the laws that are called; CountedGames); it
--- begins from a sound position, in either variant.
+-- A game that is counted is that of its tokens, and its moves are legal (the laws that are called); it begins from a
+-- sound position, as the initial ones of both variants are sound. Each clause, for a text and for a piece, is one lemma
+-- of CountedGames.
 use Rattle.std.proofs.Common.{◌∙◌, subst}
 use Rattle.chess_base.specs.{Initial.initial_setup_of, Sound.IsSound, declared.man.Variant.Variant, declared.man.Variant.TheVariants.Normal, declared.man.Variant.TheVariants.Fischerandom}
 use Rattle.pgn_verifier_laws.proofs.CountedGames.{counted_games, counted_games_of_pieces}

@@ -1,4 +1,5 @@
--- The order of faults and the draws that are passed over, by computation (FaultOrder).
+-- Which fault at a game's end is reported first (clause order), and which draws are passed over (clause draws): by
+-- computation, in FaultOrder.
 use Rattle.pgn_verifier_laws.proofs.FaultOrder.{draws_are_passed, faults_are_in_order}
 use Rattle.pgn_verifier_laws.proofs.laws.faults_are_in_order.Goals as goal
 

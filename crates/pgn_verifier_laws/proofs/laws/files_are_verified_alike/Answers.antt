@@ -1,5 +1,5 @@
--- A text cut where pieces begin has the pieces of its parts (Shards), so the reports on the files, one after another,
--- are those on the collection (FilesAlike).
+-- A collection that is cut into files where pieces begin has the pieces of its files (by Shards), so its reports are
+-- those on the files, one after another, and its counts are their sums (FilesAlike.files_alike).
 use Rattle.pgn_verifier_laws.proofs.FilesAlike.{files_alike}
 use Rattle.pgn_verifier_laws.proofs.laws.files_are_verified_alike.Goals as goal
 

@@ -1,5 +1,6 @@
--- A game that is read in a text is read in each part of it that holds the game, so the reports on the parts are those
--- on the text (Parts).
+-- A game that is read in a text is read in each part of it that holds the game (clause game). So the reports on a part
+-- that holds whole games, on all such parts of a text, and on a text's pieces if they are such parts, are those on the
+-- text (the other clauses). Each is one lemma of Parts, given the law that is called.
 use Rattle.pgn_verifier_laws.proofs.Parts.{in_parts, reported_alike, all_reported_alike, pieces_alike}
 use Rattle.pgn_verifier_laws.proofs.laws.games_are_in_parts.Goals as goal
 

@@ -1,5 +1,6 @@
 -- The reports that are made by reading games one after another meet the definitions (ReportsAre of pgn_verifier), and
--- no others do (OnlyReports).
+-- no others do (OnlyReports): so of a game, a text and a collection. Without their spans they are the plain ones
+-- (same_on, same_of_collection of OnlyReports).
 use Rattle.pgn_verifier.proofs.shared.ReportsAre.{judged_is, are_reports, are_collection_reports}
 use Rattle.pgn_verifier_laws.proofs.OnlyReports.{only_judged, only_reports, only_collection_reports, same_on, same_of_collection}
 use Rattle.pgn_verifier_laws.proofs.laws.reports_are_the_only_ones.Goals as goal

@@ -1,4 +1,5 @@
--- The spans of reports are found one after another in the text (SpansFound).
+-- The spans of the reports on a text, and of those on a collection's pieces, are found one after another in it, with a
+-- byte or more each (SpansFound), given the law that is called: a game is read token by token.
 use Rattle.pgn_verifier_laws.proofs.SpansFound.{make_up_text, make_up_collection}
 use Rattle.pgn_verifier_laws.proofs.laws.spans_make_up_the_text.Goals as goal
 

@@ -1,5 +1,5 @@
--- A written game is read back (the law that is called), so reading it ends without a fault, and neither its tags nor
--- the board contradict its result (WrittenGames).
+-- A written game is read back (the law that is called), so reading it ends without a fault, its variant is known, and
+-- neither its tag Result nor the board contradicts its outcome (WrittenGames.written_games).
 use Rattle.pgn_verifier_laws.proofs.WrittenGames.{written_games}
 use Rattle.pgn_verifier_laws.proofs.laws.written_games_have_no_fault.Goals as goal
 

@@ -1,5 +1,5 @@
--- Written games, one after another, are read back one after another (the laws that are called), so none has a fault
--- (WrittenTexts).
+-- Each written game is read back, and a text is read token by token (the laws that are called), so written games, one
+-- after another, are reported as these games, without a fault (WrittenTexts.written_texts).
 use Rattle.pgn_verifier_laws.proofs.WrittenTexts.{written_texts}
 use Rattle.pgn_verifier_laws.proofs.laws.written_texts_have_no_fault.Goals as goal
 

@@ -1,4 +1,5 @@
--- After each line the search goes on, ends there, or waits for more text; each case is a lemma of proofs/SeenLines.
+-- After each line the search goes on (SeenLines.look_on), ends there (look_ends), or waits for more text (look_waits);
+-- if the text is used up, all of it belongs to the piece (look_all).
 use Rattle.std.proofs.{Common.arith, lemmas.List.take_rest}
 use Rattle.pgn_pieces.proofs.SeenLines.{look_on, look_ends, look_waits, look_all}
 use Rattle.pgn_pieces.proofs.piece_end.Seen.find_end.Goals as goal

@@ -1,4 +1,5 @@
--- The loop's invariant: the bytes before `offset` belong to the piece, and the state is the one after them.
+-- The loop's invariant: the bytes before `offset` belong to the piece, and the state (`self`) is what is known of its
+-- lines after them. What decreases is the number of bytes from `offset` on.
 use Rattle.std.proofs.Common.{◌≤◌, ◌-◌, List, ℕ, ◌++◌, length, take}
 use Rattle.pgn_pieces.specs.ties.Held.{HasSeen}
 use Rattle.pgn_pieces.proofs.piece_end.Seen.find_end.Given as goal

@@ -1,5 +1,6 @@
--- A line without its end may belong to the piece, begin the next one, or be undecided yet; each case is a lemma of
--- proofs/SeenLines.
+-- A line without its end, by lemmas of SeenLines: it is more of a line of the piece (open_inside), begins the next
+-- piece (open_ends), or is undecided yet (open_waits). With 256 bytes or more its kind is known, however it goes on
+-- (LineKinds.decided_long), so it belongs to the piece (open_comes).
 use Rattle.std.proofs.Common.{refl, sym, ◌∙◌, arith}
 use Rattle.pgn_pieces.proofs.LineKinds.{decided_long}
 use Rattle.pgn_pieces.proofs.SeenLines.{open_inside, open_ends, open_waits, open_comes}

@@ -1,4 +1,5 @@
--- A line with its end belongs to the piece or begins the next one; each case is a lemma of proofs/SeenLines.
+-- A line with its end, by lemmas of SeenLines: it is the rest of a line of the piece (whole_inside), or a line that
+-- begins the next piece (whole_ends) or belongs to this one (whole_comes).
 use Rattle.std.proofs.Common.{refl, sym, ◌∙◌}
 use Rattle.pgn_pieces.proofs.SeenLines.{whole_inside, whole_ends, whole_comes}
 use Rattle.pgn_pieces.proofs.piece_end.Seen.see_whole.Goals as goal

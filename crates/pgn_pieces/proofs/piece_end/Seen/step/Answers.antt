@@ -1,5 +1,5 @@
--- Either the text's first line has its end (PlainLengths.line_of), or all of the text is a line without one
--- (PlainLengths.none_in).
+-- Either the text's first line has its end (PlainLengths.line_of), and what `see_whole` says of this line is so of the
+-- text; or all of the text is a line without its end (PlainLengths.none_in), as `see_open` requires.
 use Rattle.std.proofs.Common.{◌+◌, drop, sym, subst, ◌∙◌, arith, length-take-le, take-append-drop}
 use Rattle.pgn_pieces.specs.ties.Held.{Ends}
 use Rattle.pgn_pieces.proofs.PlainLengths.{none_in, line_of}

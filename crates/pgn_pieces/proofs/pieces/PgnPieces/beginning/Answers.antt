@@ -1,4 +1,5 @@
--- The first bytes are those that are held, or those that were kept of what was let go.
+-- If nothing of the piece was let go, its first 40 bytes are those of the bytes held (Kept.first_held). Otherwise more
+-- than 40 were let go, and the first 40 of these are kept.
 use Rattle.std.proofs.Common.{◌≡◌, ◌<◌, ◌++◌, [], length, take, drop, sym, ap, ◌∙◌, arith}
 use Rattle.std.proofs.{lemmas.Bool.Decides.nat_tests, lemmas.List.take-append-le, lemmas.List.nil_from_length}
 use Rattle.pgn_pieces.specs.Stream.{State}

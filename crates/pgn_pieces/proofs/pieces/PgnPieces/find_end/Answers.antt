@@ -1,4 +1,5 @@
--- The bytes up to the piece's end, or up to a line that waits for more bytes, are added to the piece (Views.passed_on).
+-- What `Seen::find_end` found in the bytes held after the piece holds of the bytes that are coming, as these are the
+-- same (Views.slice_is); and the bytes that it counts are added to the piece (Views.passed_on).
 use Rattle.std.proofs.Common.{◌+◌, ap, subst, ◌∙◌}
 use Rattle.pgn_pieces.specs.{Stream.State, ties.Held.Looks, ties.Held.passed}
 use Rattle.pgn_pieces.proofs.Views.{passed_on, slice_is}

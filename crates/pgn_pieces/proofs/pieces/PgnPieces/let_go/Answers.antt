@@ -1,4 +1,5 @@
--- The piece is too long, so that only its counts matter (Views.let_gone).
+-- The piece is too long: by the test, or, if bytes of it were let go before, by the invariant. So its bytes may be
+-- replaced by others with the same counts (Views.let_gone).
 use Rattle.std.proofs.Common.{◌<◌, ◌+◌, length, subst, arith}
 use Rattle.std.proofs.lemmas.Bool.Decides.{nat_tests}
 use Rattle.pgn_pieces.specs.{Stream.State, ties.Held.LetGo}

@@ -1,5 +1,7 @@
--- What was looked through belongs to the piece (Steps.Looked). Each way out is one lemma: the end is found, the last
--- piece, or a read that gave nothing.
+-- By the invariant all that was looked through belongs to the piece (Steps.Looked), as one read more keeps it
+-- (looked_on). Each way out is a lemma of Steps: the piece's end is found (next_found, found_some), the input has ended
+-- (next_last), or no more can be read (next_stopped). In the first two the piece's offset is the end of the piece
+-- before (kept_on).
 use Rattle.std.proofs.Common.{◌≡◌, false, true, sym, ap, subst, ◌∙◌}
 use Rattle.pgn_pieces.specs.{Stream.State, ties.Held.with_more}
 use Rattle.pgn_pieces.proofs.Steps.{Looked, looked_at_nothing, looked_on, next_found, next_last, next_stopped, found_some, kept_on}

@@ -1,4 +1,5 @@
--- The loop's invariant: all that was looked through belongs to the piece (Looked of Steps).
+-- The loop's invariant: all that was looked through belongs to the piece (Looked of Steps). What decreases is the
+-- number of reads that can still succeed.
 use Rattle.pgn_pieces.proofs.Steps.{Looked}
 use Rattle.pgn_pieces.proofs.pieces.PgnPieces.next.Given as goal
 
