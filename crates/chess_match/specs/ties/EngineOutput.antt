@@ -1,4 +1,5 @@
--- What came from an engine so far, and which bytes of it are held: read, but not yet returned as lines.
+-- What came from an engine so far, and which bytes of it are held (read, but not yet returned as lines); and what one
+-- act more does to both.
 use Rattle.std.specs.Prelude.{◌≡◌, ◌⊎◌, ℕ, Bool, false, List, ◌++◌, map, Option}
 use Rattle.std.specs.Bool.{MatchBool}
 use Rattle.std.specs.Io.KnownBytes.{Consumes}
