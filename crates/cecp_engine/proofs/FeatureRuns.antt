@@ -1,5 +1,6 @@
--- What an engine takes after one `feature` item more, by what it took before and that item, as the last item of a name
--- decides: for a single feature (takes-snoc), for Chess960 (fischerandom-snoc), and for all of them (features-snoc).
+-- Which features an engine has on after one `feature` item more, by those that it had on before and that item, as the
+-- last item of a name decides: for a single feature (takes-snoc), for Chess960 (fischerandom-snoc), and for all of them
+-- (features-snoc).
 use Rattle.std.proofs.Common.{◌≡◌, ℕ, true, List, [], ◌∷◌, ◌++◌, refl, codes}
 use Rattle.cecp_engine.specs.Items.{Item, takes, is_one, has_word, plays_fischerandom}
 use Rattle.cecp_engine.specs.{ties.Taken.said_again, ties.Taken.fischerandom_again, Seen.features_of, declared.features.Features.Features}

@@ -1,5 +1,5 @@
--- The text of a level, such as `40 0:30 0.5`, is ASCII: digits, points, colons and spaces. A lemma for each part of it,
--- and last the whole (level_ascii).
+-- The text of a level whose numbers are within bounds (`IsLevel`), such as `40 0:30 0.5`, is ASCII: digits, points,
+-- colons and spaces. A lemma for each part of it, from a digit on, and last the whole (level_ascii).
 use Rattle.std.proofs.Common.{◌≡◌, ℕ, ◌+◌, ◌/◌, ◌%◌, ◌<◌, ◌≤◌, Bool, true, false, eqb, List, [], ◌∷◌, ◌++◌, refl, arith, IsAscii, decimal, append-nil}
 use Rattle.std.proofs.{lemmas.Fmt.IsAscii-decimal, lemmas.Str.IsAscii-append, lemmas.Str.Ascii.IsAscii-nil, lemmas.Str.Ascii.IsAscii-cons}
 use Rattle.byte_devices.specs.Bytes.{byte}

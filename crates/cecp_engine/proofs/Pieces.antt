@@ -1,6 +1,7 @@
 -- A word is looked for in a list that is separated by commas, spaces and tabs, such as `normal,fischerandom`. The
--- definition cuts the list into pieces at once, the loop goes byte by byte: has_word_after is what the loop has left to
--- find out, and both agree (cut_at_once).
+-- definition cuts the list into entries at once, the loop goes byte by byte: has_word_after is what the loop has left
+-- to find out. Both agree before the first byte (cut_at_once, by induction on the list), and the loop's steps keep
+-- has_word_after: over a byte of an entry (over_byte), and over a separator (over_mark).
 use Rattle.std.proofs.Common.{◌≡◌, ℕ, zero, suc, ◌+◌, ◌-◌, ◌<◌, ◌≤◌, Bool, true, false, ◌||◌, List, [], ◌∷◌, ◌++◌, length, take, drop, get_or, refl, ap, sym, ◌∙◌, arith, append_assoc, append-nil, cond, bytes_eq, take-suc, if◌then◌else◌, ◌==◌}
 use mathlib.Core.Bool.{or-false}
 use Rattle.std.specs.List.{list_any, slice_split, onto_first}
@@ -11,29 +12,30 @@ use Rattle.byte_devices.specs.Bytes.{byte, is_blank}
 abbrev pub is_comma_or_blank : ℕ → Bool
 is_comma_or_blank c = is_blank c || (c == byte ",")
 
--- whether the word is a piece, where `piece` is the piece that has begun, and the list is the rest of the text
+-- whether the word (the first argument) is an entry, where `piece` is the entry that has begun, and the last argument
+-- the rest of the text
 abbrev pub has_word_after : List ℕ → List ℕ → List ℕ → Bool
 has_word_after word piece [] = bytes_eq piece word
 has_word_after word piece (c ∷ cs) =
     if is_comma_or_blank c then bytes_eq piece word || has_word_after word [] cs
     else has_word_after word (piece ++ c ∷ []) cs
 
--- the pieces with a piece put before the first
+-- the entries, with the bytes of another put before the first one's, as one entry
 abbrev after_piece : List ℕ → List (List ℕ) → List (List ℕ)
 after_piece piece [] = piece ∷ []
 after_piece piece (first ∷ pieces) = (piece ++ first) ∷ pieces
 
--- whether one of the pieces is this word
+-- whether one of the entries is this word
 abbrev is_any : List ℕ → List (List ℕ) → Bool
 is_any word pieces = list_any (λ piece. bytes_eq piece word) pieces
 
--- a byte at the end of `piece`, or before the first of the pieces, is the same
+-- a byte at the end of `piece`, or before the first of the entries `pieces`, is the same
 after_byte : (piece : List ℕ) (c : ℕ) (pieces : List (List ℕ))
     → after_piece (piece ++ c ∷ []) pieces ≡ after_piece piece (onto_first c pieces)
 after_byte piece c [] = refl
 after_byte piece c (first ∷ pieces) = ap (λ (l : List ℕ). l ∷ pieces) (append_assoc piece (c ∷ []) first)
 
--- nothing put before the pieces leaves them
+-- nothing put before the entries leaves them
 after_none : (p : ℕ → Bool) (text : List ℕ) → after_piece [] (slice_split p text) ≡ slice_split p text
 after_none p [] = refl
 after_none p (c ∷ cs) = at (p c) (slice_split p cs)
@@ -44,7 +46,7 @@ after_none p (c ∷ cs) = at (p c) (slice_split p cs)
     at false [] = refl
     at false (first ∷ pieces) = refl
 
--- one byte: a separator (`b`) ends the piece, any other byte goes to it
+-- one byte: a separator (`b`) ends the entry, any other byte goes to it
 cut_at : (word piece : List ℕ) (c : ℕ) (cs : List ℕ) (b : Bool)
     → ((p : List ℕ) → is_any word (after_piece p (slice_split is_comma_or_blank cs)) ≡ has_word_after word p cs)
     → is_any word (after_piece piece
@@ -57,14 +59,14 @@ cut_at word piece c cs true rest =
 cut_at word piece c cs false rest =
     sym (ap (is_any word) (after_byte piece c (slice_split is_comma_or_blank cs))) ∙ rest (piece ++ c ∷ [])
 
--- the pieces of the rest, with `piece` put before the first, have the word just where has_word_after says so; by
+-- the entries of the rest, with `piece` put before the first, have the word just where has_word_after says so; by
 -- induction on the rest
 cut_after : (word piece text : List ℕ)
     → is_any word (after_piece piece (slice_split is_comma_or_blank text)) ≡ has_word_after word piece text
 cut_after word piece [] = rw (append-nil piece) (or-false (bytes_eq piece word))
 cut_after word piece (c ∷ cs) = cut_at word piece c cs (is_comma_or_blank c) (λ p. cut_after word p cs)
 
--- so before the first byte, where no piece has begun, both agree
+-- so before the first byte, where no entry has begun, both agree
 pub cut_at_once : (word text : List ℕ)
     → list_any (λ piece. bytes_eq piece word) (slice_split is_comma_or_blank text) ≡ has_word_after word [] text
 cut_at_once word text = sym (ap (is_any word) (after_none is_comma_or_blank text)) ∙ cut_after word [] text
@@ -89,7 +91,7 @@ by_byte : (word piece : List ℕ) (c : ℕ) (cs : List ℕ) (b : Bool) → is_co
     ≡ (if b then bytes_eq piece word || has_word_after word [] cs else has_word_after word (piece ++ c ∷ []) cs)
 by_byte word piece c cs b e = rw e refl
 
--- a step of the loop over a byte that is no separator: the piece has that byte more
+-- a step of the loop over a byte that is no separator: the entry has that byte more
 pub over_byte : (word text : List ℕ) (from at : ℕ) → from ≤ at → at < length text
     → is_comma_or_blank (get_or text at 0) ≡ false
     → has_word_after word (take (at - from) (drop from text)) (drop at text) ≡ has_word_after word
@@ -102,7 +104,7 @@ over_byte word text from at o h e =
 nothing_taken : (n : ℕ) (xs : List ℕ) → take (n - n) xs ≡ []
 nothing_taken n xs = let e : n - n ≡ 0 = omega arith in rw e refl
 
--- a step over a separator, where the piece before it isn't the word: the next piece begins after it
+-- a step over a separator, where the entry before it isn't the word: the next entry begins after it
 pub over_mark : (word text : List ℕ) (from at : ℕ) → at < length text → is_comma_or_blank (get_or text at 0) ≡ true
     → bytes_eq (take (at - from) (drop from text)) word ≡ false
     → has_word_after word (take (at - from) (drop from text)) (drop at text) ≡ has_word_after word

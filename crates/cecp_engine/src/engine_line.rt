@@ -32,7 +32,8 @@ pub enum EngineLine<'a> {
     Other,
 }
 
-// The kind of a line `pong N`, where `text` is N: the answer to `ping N`; `Other`, if N is no number.
+// The kind of a line `pong N`, where `text` is N: the answer to `ping N`; `Other`, if N is no number of one to nine
+// digits.
 fn pong(text: &[u8]) -> EngineLine<'_>
     ensures { seen result ≡ option_map_or Answers (command_number text.now) SaysElse }
 {

@@ -68,7 +68,8 @@ fn read_value(text: &[u8]) -> Option<(Value<'_>, &[u8])>
     }
 }
 
-// Whether an item may end before this text: it is empty, or begins with a space or tab.
+// Whether an item may end where this text, the rest of its line, begins: the text is empty, or begins with a space or
+// tab.
 fn may_follow_item(text: &[u8]) -> bool
     ensures { result ≡ list_all is_blank (take 1 text.now) }
 {
@@ -131,8 +132,8 @@ impl<'a> Value<'a> {
 }
 
 impl Item<'_> {
-    /// Whether the engine has the feature `name` on after this item: if the item has that name, it decides; otherwise
-    /// the feature stays as `before`.
+    /// Whether the engine has the feature `name` on after this item: if the item has that name, whether its value is 1,
+    /// without quotes; otherwise as `before`.
     pub(crate) fn says_or(&self, name: &[u8], before: bool) -> bool
         ensures { result ≡ said_again name.now (item_seen self.now) before }
     {
@@ -143,8 +144,8 @@ impl Item<'_> {
         }
     }
 
-    /// Whether the engine plays Chess960 after this item: the item decides if it is `variants`; otherwise that stays as
-    /// `before`.
+    /// Whether the engine plays Chess960 after this item: if the item is `variants`, whether its value has the word
+    /// `fischerandom`; otherwise as `before`.
     pub(crate) fn names_fischerandom_or(&self, before: bool) -> bool
         ensures { result ≡ fischerandom_again (item_seen self.now) before }
     {
@@ -189,7 +190,8 @@ fn has_word(text: &[u8], word: &[u8]) -> bool
     &text[from..] == word
 }
 
-/// Whether a feature of this name is answered by `accepted`, otherwise by `rejected`.
+/// Whether the arbiter answers a feature of this name by `accepted`: it uses the feature (the first list), or accepts
+/// and ignores it (the second). Any other it answers by `rejected`.
 #[tactic(auto, unfolding(crate::specs::Items::is_known))]
 pub fn is_known(name: &[u8]) -> bool
     ensures { result ≡ is_known name.now }

@@ -53,8 +53,8 @@ fn thousandths(decimals: &[u8]) -> Option<u32>
     }
 }
 
-// The milliseconds that a text of seconds denotes: one to `most` digits, and then perhaps a point and decimals; `None`
-// for any other text.
+// The milliseconds that a text of seconds denotes: one to `most` digits (`2` is 2,000), and then perhaps a point and
+// one to three decimals (`0.25` is 250); `None` for any other text.
 #[tactic(auto, unfolding(crate::specs::Levels::milliseconds_of))]
 fn milliseconds(text: &[u8], most: usize) -> Option<u32>
     requires { most ≤ 3 }
@@ -71,8 +71,8 @@ fn milliseconds(text: &[u8], most: usize) -> Option<u32>
     Some(1000 * seconds + thousandths)
 }
 
-// The base time that a text denotes, in milliseconds: minutes (`5`), or minutes and seconds (`0:30`, `0:08.5`); `None`
-// for any other text.
+// The base time that a text denotes, in milliseconds: minutes (`5` is 300,000), or minutes and fewer than 60 seconds
+// (`0:30`, `0:08.5`); `None` for any other text.
 #[tactic(auto, unfolding(crate::specs::Levels::base_of))]
 fn base(text: &[u8]) -> Option<u32>
     ensures value { result ≡ base_of text.now }
@@ -92,7 +92,8 @@ fn base(text: &[u8]) -> Option<u32>
     }
 }
 
-// The time control that a text denotes, or the text's first fault.
+// The time control that a text denotes, or its first fault: it has not three words, or its moves, its base time or its
+// increment is malformed.
 #[tactic(auto, unfolding(crate::specs::Levels::level_reading))]
 pub(crate) fn read_level(text: &[u8]) -> Result<Level, LevelFault>
     ensures { result ≡ level_reading text.now }

@@ -15,8 +15,8 @@ use std::{fmt, str};
 /// The text of a level: at most 80 bytes of ASCII, with room for three numbers of 20 digits (`append_number`).
 pub type LevelText = ArrayVec<u8, 80>;
 
-// Appends a part of a second, given in milliseconds, as it is written after whole seconds: nothing, or a point and
-// decimals without zeros at their end.
+// Appends a part of a second, given in milliseconds, as it is written after whole seconds: nothing for 0, otherwise a
+// point and decimals without zeros at their end (`.5` for 500, `.08` for 80).
 #[tactic(auto, unfolding(crate::specs::Levels::decimals_text))]
 fn append_decimals(text: &mut LevelText, part: u32)
     requires room { array_vec_len text.old + 4 ≤ 80 }
@@ -50,7 +50,8 @@ fn append_decimals(text: &mut LevelText, part: u32)
     }
 }
 
-// Appends a base time, given in milliseconds, as it is written: minutes, and seconds if there are any.
+// Appends a base time, given in milliseconds, as it is written: minutes (`5` for 300,000), and after a colon seconds,
+// if there are any (`0:08.5` for 8,500).
 #[tactic(auto, unfolding(crate::specs::Levels::base_text))]
 fn append_base(text: &mut LevelText, base: u32)
     requires room { array_vec_len text.old + 30 ≤ 80 }
@@ -74,7 +75,7 @@ fn append_base(text: &mut LevelText, base: u32)
     }
 }
 
-// Appends an increment, given in milliseconds, as it is written: in seconds.
+// Appends an increment, given in milliseconds, as it is written, in seconds: `2` for 2,000, `0.1` for 100.
 #[tactic(auto, unfolding(crate::specs::Levels::increment_text))]
 fn append_increment(text: &mut LevelText, increment: u32)
     requires room { array_vec_len text.old + 24 ≤ 80 }

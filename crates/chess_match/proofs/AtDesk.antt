@@ -1,6 +1,7 @@
 -- What passes at a desk, the table made of each engine's two pipes, a clock and a witness (src/desk.rt). First for each
--- call of the desk: from what it did to its device follows which step passed (`note_moves` to `until_moves`). Then for
--- a whole match: what its steps (`watched`) did to each device, its acts did.
+-- call of the desk: from what it did to its device follows which steps passed (`note_moves` to `until_moves`). Then for
+-- a whole match, by induction over its acts: what its steps (`watched`) did to each device, its acts did. Last: acts
+-- that look for no line leave all outputs (`tail_same`).
 use Rattle.std.proofs.Common.{◌≡◌, ℕ, Bool, true, false, List, [], ◌∷◌, ◌++◌, refl, ap, sym, ◌∙◌, subst, append_assoc, append-nil, Option, None, Some, Result, Ok, Err, arith, if◌then◌else◌}
 use Rattle.byte_devices.specs.{Devices.InputState, Devices.OutputState, Transfers.Devices}
 use Rattle.chess_base.specs.{declared.man.Colour.Colour, Men.other, Options.list_if}

@@ -1,4 +1,5 @@
--- Each block that a match sends has at least one line (`blocks_filled`), since no block is made of no lines.
+-- Each block that a match sends has at least one line (`blocks_filled`): by induction over its acts, since each block
+-- that is due has one (`due_filled`: no block is made of no lines).
 use Rattle.std.proofs.Common.{List, [], ◌∷◌, ◌++◌, if◌then◌else◌}
 use Rattle.chess_base.specs.{declared.man.Colour.Colour, declared.man.Colour.TheVariants.White, Men.other}
 use Rattle.chess_match.specs.Acts.{Act, Block, Sends, IsMatch, block_of, blocks_from, is_over}

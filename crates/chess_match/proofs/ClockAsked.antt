@@ -1,5 +1,6 @@
--- What `ClockReadings` says of no reading, of one, and of some readings and then others: the moments shown are, in
--- order, those that the clock was known to give.
+-- `ClockReadings` holds of no reading (`asked_none`), of one (`asked_one`), and of some readings and then others
+-- (`asked_more`): the moments shown are, in order, those that the clock was known to give. A reading of the second run
+-- is counted on from the end of the first (`shown_at`).
 use Rattle.std.proofs.Common.{◌≡◌, ℕ, zero, suc, ◌+◌, ◌<◌, List, [], ◌∷◌, ◌++◌, length, ap, sym, ◌∙◌, arith, length-append, subst, Option, Some, None, zero-add, slice_get, IfSome}
 use Rattle.chess_match.specs.Run.{ClockReadings}
 

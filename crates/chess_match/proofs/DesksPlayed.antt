@@ -1,6 +1,6 @@
--- From the steps that passed at a desk in a match (`PlayedAt`) to what each of its devices shows apart
--- (`PlayedNoting`): what was written to each engine (`all_written`), what came from it (OutputByActs.all_read), the
--- moments and the notes.
+-- From the steps that passed at a desk in a match (`PlayedAt`) to what each of its devices shows apart (`PlayedNoting`,
+-- by `desk_ran`): what was written to each engine (`all_written`, by induction over the acts), what came from it
+-- (OutputByActs.all_read), the moments and the notes. The desk keeps its references to them (`names_kept`).
 use Rattle.std.proofs.Common.{◌≡◌, ℕ, Bool, true, false, List, [], ◌∷◌, ◌++◌, refl, sym, ◌∙◌, subst, append_assoc, append-nil, Option, None, Some, MatchBool, if◌then◌else◌}
 use Rattle.byte_devices.specs.Devices.{OutputState, CutShort}
 use Rattle.byte_devices.specs.Transfers.{ToOutput, Devices, OutputTook, all_of}

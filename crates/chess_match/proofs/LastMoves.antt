@@ -1,5 +1,6 @@
 -- After a move was played from the position after `ms`, the text of the last move (`text_of_last`) is the text of this
--- move in that position, by squares or in SAN.
+-- move in that position, by squares or in SAN (`text_at_last`). So the two texts that `play` makes, all but the check
+-- mark before it plays the move, are those of the last move (`texts_of_last`).
 use Rattle.std.proofs.Common.{◌≡◌, ℕ, ◌-◌, Bool, List, [], ◌∷◌, ◌++◌, length, length-append, refl, ap, sym, ◌∙◌, Option, None, Some, arith, if◌then◌else◌}
 use Rattle.std.specs.List.{last_or}
 use Rattle.std.proofs.Math.Seq.{take-append_seam}

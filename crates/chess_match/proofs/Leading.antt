@@ -1,5 +1,6 @@
--- The steps of a block that was sent, of a write that failed and of an event lead from one match to another (`Leads`);
--- `leads_on` joins such steps; by `leads_out` those from the beginning to the end of a match are the steps of its acts.
+-- The steps of a block that was sent, of a write that failed and of an event lead from one match to another (`Leads`),
+-- in which the blocks of the effect are due; `leads_on` joins such steps. By `leads_out`, steps that lead to the end of
+-- a match are those of acts that are the rest of it.
 use Rattle.std.proofs.Common.{◌≡◌, ℕ, ◌<◌, Bool, true, false, ◌||◌, List, [], ◌∷◌, ◌++◌, length, refl, ap, sym, ◌∙◌, subst, append_assoc, append-nil, arith, lt-ltb, if◌then◌else◌, nat_lt}
 use Rattle.std.specs.Cmp.Derive.{both_true}
 use Rattle.chess_base.specs.{declared.man.Colour.Colour, declared.man.Colour.TheVariants.White, declared.man.Colour.TheVariants.Black, Men.other, Men.same_colour, Options.list_if}

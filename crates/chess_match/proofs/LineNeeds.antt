@@ -1,5 +1,6 @@
--- What `MatchState::line` requires of the core (its clauses `counted`, `few` and `undecided`) follows from `Represents`
--- and `IsSane`; and what holds of White and of Black holds of each side.
+-- What `MatchState::line` requires of the core (its clauses `counted`, `few` and `undecided`) follows from
+-- `Represents`, by which the core has the counts, clocks and phase of the match, and `IsSane`, which says it of the
+-- match; and what holds of White and of Black holds of each side (`both_sides`).
 use Rattle.std.proofs.Common.{◌≡◌, ◌<◌, ◌≤◌, true, List, length, ap, ◌∙◌, arith, None}
 use Rattle.chess_base.specs.{declared.man.Colour.Colour, declared.man.Colour.TheVariants.White, declared.man.Colour.TheVariants.Black, declared.man.Move.Move}
 use Rattle.cecp_engine.specs.Clocks.{side_clock}

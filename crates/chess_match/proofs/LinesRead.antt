@@ -1,5 +1,6 @@
--- A call for the next line of one engine does to its output what the act of the read says (`OutputAt`), and nothing to
--- the other's: by cases of the call's result.
+-- A call for the next line of one engine does to its output what the act of the read says (`OutputAt`), by cases of the
+-- call's result: for `read_line` (`own_read`), and for `read_line_until` where no line had come in time (`own_silent`).
+-- To the other engine's output it does nothing, as the act says too (`other_read`, `other_silent`).
 use Rattle.std.proofs.Common.{◌≡◌, Bool, true, false, inl, inr, refl, sym, subst, Option, Some, None, Result, Ok, Err, if◌then◌else◌, MatchBool}
 use Rattle.chess_base.specs.{declared.man.Colour.Colour, Men.other, Men.same_colour}
 use Rattle.byte_devices.specs.Devices.{InputState}

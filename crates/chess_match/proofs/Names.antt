@@ -1,5 +1,5 @@
--- The name of an engine is the value of its last `myname`: an item `myname` replaces it (`name_said`), any other item
--- leaves it (`name_kept`).
+-- The name kept of an engine (`name_by`) is the value of its last `myname`, cut for a PGN tag: an item `myname` more
+-- replaces it (`name_said`), any other item leaves it (`name_kept`).
 use Rattle.std.proofs.Common.{◌≡◌, true, false, List, [], ◌∷◌, ◌++◌, refl, codes, bytes_eq}
 use Rattle.chess_game.specs.Results.{cut_tag}
 use Rattle.cecp_engine.specs.Items.{Item}

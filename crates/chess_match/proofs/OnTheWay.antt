@@ -1,5 +1,7 @@
--- The loop of `run_match_at`: its invariant (`OnTheWay`), how it begins (`begun`), how an event keeps it (`went_on`,
--- `opened_on`), the measure that falls with each round (`steps_left`), and the contract at its end (`played_at`).
+-- The loop of `run_match_at`: its invariant (`OnTheWay`: the steps so far lead from the beginning to the present
+-- match), how it begins (`begun`), how an event keeps it (`went_on`, `opened_on`), the measure that falls with each
+-- round (`steps_left`, `went_less`, `opened_less`), the contract at its end (`played_at`), and that the outcome
+-- reported is the game's (`reported_outcome`).
 use Rattle.std.proofs.Common.{◌≡◌, ℕ, ◌+◌, ◌*◌, ◌<◌, ◌≤◌, Bool, true, false, ◌||◌, List, [], ◌++◌, refl, ap, sym, ◌∙◌, subst, arith, Option, None, Some, codes, if◌then◌else◌, is_some}
 use Rattle.std.specs.Option.{option_map, option_map_or, option_or}
 use Rattle.std.proofs.Math.Path.{fun_ext}

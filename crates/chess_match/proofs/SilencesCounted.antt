@@ -1,5 +1,6 @@
--- An engine's output counts as many silences as looks for its line found none in the acts of a match: each act adds one
--- if it is such a look, so by induction over the acts.
+-- An engine's count of silences grows by the number of looks for its line that found none in these acts
+-- (`silences_counted`): each act adds one if it is such a look, and otherwise nothing (`one_act`); by induction over
+-- the acts.
 use Rattle.std.proofs.Common.{◌≡◌, ℕ, ◌+◌, Bool, true, false, cond, inl, inr, List, [], ◌∷◌, sym, ap, ◌∙◌, zero-add, MatchBool, count_by, ◌⊎◌}
 use Rattle.std.specs.Io.KnownBytes.{Consumes}
 use Rattle.std.proofs.lemmas.List.Sums.{sum_by-cons}

@@ -1,5 +1,7 @@
--- A look for the next line of an engine gives one of five events, by the call's result: a line, a last line without
--- `\n`, the output's end, a silence or a failed read. For each, which step passed at the table.
+-- A look for the next line of an engine has one of five results: a line, a last line without `\n` (which counts as the
+-- end), the output's end, a silence or a failed read. For each, which steps passed at the table (`as_line` and so on).
+-- Then a line leaves less to come (`line_falls`); after an end or a failed read there are no items, which gives all
+-- that `take_next` ensures (`without_items`).
 use Rattle.std.proofs.Common.{◌≡◌, ◌<◌, ℕ, Bool, true, false, List, [], ◌∷◌, ◌++◌, refl, ap, sym, ◌∙◌, subst, Option, None, Some, Result, Ok, Err, if◌then◌else◌, is_some}
 use Rattle.chess_base.specs.{declared.man.Colour.Colour, declared.man.Move.Move, Men.other}
 use Rattle.cecp_engine.specs.Items.{Item}

@@ -30,7 +30,8 @@ impl MatchState {
     }
 }
 
-// Appends the line with the last move, if there is one, in the form that this side's engine asked for.
+// Appends the line with the last move, if there is one, in the form that this side's engine asked for: in SAN with
+// `san=1`, otherwise by its squares, and after the word `usermove` with `usermove=1`.
 #[tactic(auto, using(crate::proofs::Sends::no_last, crate::proofs::Sends::last_kept, crate::proofs::Sends::same_end))]
 fn add_last(block: &mut Block, core: &MatchState, side: Colour)
     requires { array_vec_len block.old + 20 ≤ BLOCK_LEN }
@@ -72,8 +73,8 @@ fn add_later_opening(block: &mut Block, core: &MatchState, mover: Colour)
     add_last(block, core, mover);
 }
 
-// Appends the lines that open a turn of this side: both clocks and the last move; in its first turn the move comes
-// first, and `go` last.
+// Appends the lines that open a turn of this side: both clocks, and then the last move. In the side's first turn the
+// move, if there is one, comes first, then the clocks, and `go` last.
 fn add_opening(block: &mut Block, core: &MatchState, side: Colour)
     requires { array_vec_len block.old + 100 ≤ BLOCK_LEN }
     ensures text { (r : Rules) (played : List Move) (m : Match) → Represents r core.now played m

@@ -22,7 +22,7 @@ pub enum MatchFault {
     NoPing,
     /// The start is to be sent, and its handshake doesn't say `setboard=1`.
     NoSetboard,
-    /// It sent 10,000 ignored lines in its setup or in a turn.
+    /// It sent 10,000 ignored lines in its setup or in one turn.
     Flood,
     /// The variant is Chess960, and its handshake says `variants` without `fischerandom`.
     NoVariant,

@@ -244,8 +244,8 @@ fn awaited_in(phase: Phase) -> Awaited
     }
 }
 
-// Notes that writing to `side` failed, which ends the match, and sends the other side its last lines, put together in
-// the empty block `waiting`. Returns whether sending these failed too.
+// Gives the witness the note that writing to `side` failed, ends the match by that, and sends the other side its last
+// lines, put together in its block `waiting`, which must be empty. Returns whether sending these failed too.
 fn end_for_other<T: MatchTable, G: MatchGame>(
     table: &mut T,
     core: &mut MatchState,
@@ -268,8 +268,8 @@ fn end_for_other<T: MatchTable, G: MatchGame>(
     note_and_send(table, core, game, given, waiting, side.other())
 }
 
-// Sends each side its last lines, White first: the answers in its block and what `given` says. Empties both blocks, and
-// returns to which sides sending failed.
+// Sends each side its last lines, White first: the answers to items that are in its block, and then what `given` says.
+// Empties both blocks, and returns to which sides sending failed.
 fn send_last<T: MatchTable, G: MatchGame>(
     table: &mut T,
     core: &MatchState,
@@ -299,7 +299,7 @@ fn send_last<T: MatchTable, G: MatchGame>(
     }
 }
 
-// A value for each side: `own` for this one, and `others` for the other.
+// A value for each side: `own` for the side `side`, and `others` for the other.
 fn in_turn(side: Colour, own: bool, others: bool) -> ByColour<bool>
     ensures { (S : Colour) → of_colour result S ≡ by_turn side own others S }
 {
@@ -372,7 +372,8 @@ fn deliver<T: MatchTable, G: MatchGame>(
     }
 }
 
-// Whether this is a line to be read: `\n` ended it. What comes after the last `\n` counts as the end of the output.
+// Whether `\n` ended this line, so that it counts as one. What comes after the last `\n` counts as the end of the
+// output.
 fn is_parsed(line: &Line<ENGINE_LINE_LEN>) -> bool
     ensures { result ≡ line.now.ended }
 {
@@ -390,7 +391,8 @@ fn text_read(line: &Line<ENGINE_LINE_LEN>) -> Option<&[u8]>
     }
 }
 
-// What an engine says by this line, by its first words; a line that is too long is one that is ignored (`Other`).
+// The kind of this line of an engine, by its first words; a line that is too long is of the kind that is ignored
+// (`Other`).
 #[tactic(auto, using(crate::proofs::Features::features_short))]
 fn said(line: &Line<ENGINE_LINE_LEN>) -> EngineLine<'_>
     ensures said { seen result ≡ line_kind (text_read line.now) }
@@ -403,8 +405,9 @@ fn said(line: &Line<ENGINE_LINE_LEN>) -> EngineLine<'_>
     }
 }
 
-// Takes a line of this side's engine: the clock is read, the line is noted, and the match goes on by it. Returns what
-// is to be sent; the answers to the line's items go to `block`, which must be empty.
+// Takes a line of this side's engine, which is in `line`: the clock is read, the line is noted, and the match goes on
+// by it. The answers to its items (`accepted NAME` or `rejected NAME`, in a handshake) go to `block`, which must be
+// empty. Returns what else is to be sent.
 #[tactic(auto, using(crate::proofs::LineNeeds::counted, crate::proofs::LineNeeds::few, crate::proofs::LineNeeds::undecided))]
 fn take_line<T: MatchTable, G: MatchGame>(
     table: &mut T,
@@ -474,8 +477,9 @@ fn read_next<T: MatchTable>(
 }
 
 // Reads the next line of this side's engine into `line` and takes it, if there is one and `\n` ended it; otherwise
-// takes note that no line had come, that the output ended, or that the read failed. Returns what is to be sent; the
-// answers to the line's items go to `block`, which must be empty.
+// takes note that no line had come, that the output ended, or that the read failed. The answers to the line's items
+// (`accepted NAME` or `rejected NAME`, in a handshake) go to `block`, which must be empty. Returns what else is to be
+// sent.
 fn take_next<T: MatchTable, G: MatchGame>(
     table: &mut T,
     core: &mut MatchState,
@@ -534,8 +538,9 @@ fn declare<B: Board>(game: &mut Game<B>, reason: Reason)
     game.declare_open(reason.outcome(), Comment::cut(reason.comment()));
 }
 
-// Returns the report of a match that ended for `reason`, with both engines' names and the first fault (`failed` says to
-// whom a write failed). Also declares the outcome in the game, unless the board has a verdict, which is then reported.
+// Returns the report of a match that ended for `reason`, with both engines' names and the fault, if any: the one that
+// ended it, otherwise a failed write of the last lines (`failed` says to whom). Also declares the outcome in the game,
+// unless the board has a verdict, which is then reported.
 #[tactic(auto, using(crate::proofs::Comments::kept_whole))]
 fn end_of<B: Board>(
     core: MatchState,

@@ -23,7 +23,7 @@ fn first_beyond(from: u64, limit: u64) -> u64
     from.saturating_add(limit).saturating_add(1)
 }
 
-// Whether `waited` milliseconds are more than the limit; false without a limit.
+// Whether `waited` milliseconds are more than the limit, if there is one (`None`: never).
 fn is_beyond(limit: Option<u64>, waited: u64) -> bool
     ensures { result ≡ option_map_or (λ l. nat_lt l waited) limit false }
 {
@@ -103,7 +103,8 @@ impl MatchState {
         NOTHING
     }
 
-    /// Takes note that no line of this side, whose line is awaited, had come when the clock showed `moment`. Returns
+    /// Takes note that no line of this side, whose line is awaited, had come when the clock showed `moment`: before its
+    /// move its flag may have fallen, otherwise the time for its reply may be over, and then the match ends. Returns
     /// what is to be sent.
     pub(crate) fn silent<G: MatchGame>(&mut self, game: &G, side: Colour, moment: u64) -> Actions
         ensures { (r : Rules) (m : Match) → G.plays game.now r → awaits_line m.phase side ≡ true

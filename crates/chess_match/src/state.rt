@@ -47,13 +47,13 @@ pub(crate) struct MatchState {
     pub phase: Phase,
     pub players: ByColour<Player>,
     pub clocks: Clocks,
-    /// The last move, if there is one.
+    /// The last move, if one was made: its texts, and who is still to be sent it.
     pub last: Option<LastMove>,
-    /// How many lines the handshake has had, or how many lines of the setup or turn were ignored.
+    /// How many lines the present handshake has had, or how many lines of the present setup or turn were ignored.
     pub count: u32,
     /// The moment at which the turn's opening was sent: the time of its move runs from there.
     pub opened: u64,
-    /// The moment from which the time for a reply runs; `None`: it doesn't run yet.
+    /// The moment from which the time for a reply (any line that is owed, but a move) runs; `None`: it doesn't run yet.
     pub since: Option<u64>,
     /// How long lines are waited for.
     pub patience: Patience,
@@ -61,10 +61,12 @@ pub(crate) struct MatchState {
     pub draws: Draws,
 }
 
-/// So many ignored lines in one setup or turn end the match, so that no flood of lines goes on for ever.
+/// So many ignored lines in one setup or turn end the match, by the fault `Flood`: so no flood of lines goes on for
+/// ever.
 pub(crate) const FLOOD_LEN: u32 = 10_000;
 
-/// So many lines in one handshake without `done=1` end the match, so that no handshake goes on for ever.
+/// So many lines in one handshake without `done=1` end the match, by the fault `NoDone`: so no handshake goes on for
+/// ever.
 pub(crate) const HANDSHAKE_LEN: u32 = 1_000;
 
 /// Nothing is sent.
@@ -95,7 +97,8 @@ impl Player {
     }
 
     /// Takes over the items of a `feature` line (`text` is the line without its first word), up to `done=1` or a
-    /// malformed one, appends the answers to them to `block`, and returns whether `done=1` was met.
+    /// malformed one, appends the answers to these items (`accepted NAME` or `rejected NAME`) to `block`, and returns
+    /// whether `done=1` was met.
     pub(crate) fn take_items(&mut self, text: &[u8], block: &mut Block) -> bool
         requires { array_vec_len block.old + 4 * length text.now ≤ ANSWERS_LEN }
         ensures features { (items : List feature_items.Item) → self.old.features ≡ features_of items

@@ -1,6 +1,7 @@
--- For matches: the items of a `feature` line, such as `ping=1`, one after another. An item is cut from a text as code
--- cuts it (item_parts), it leaves less than the text (item_shorter), so the items of a text are its first one and those
--- of the rest (items_of-step), and a loop over them keeps SoFar.
+-- For crates above too: the items of a `feature` line, such as `ping=1`. An item is cut from a text as code cuts it
+-- (item_parts), without a value where a quote isn't closed (unclosed), and takes at least two bytes more than its name
+-- (item_room, item_shorter). So the items of a text are its first one and those of the rest (items_of-step), and a loop
+-- over them keeps SoFar (so_far_more, so_far_done, so_far_none). Of a name the last item counts (last_said-snoc).
 use Rattle.std.proofs.Common.{◌≡◌, ℕ, zero, suc, ◌+◌, ◌-◌, ◌≤◌, ◌<◌, Bool, true, false, List, [], ◌∷◌, ◌++◌, length, take, drop, get_or, refl, ap, sym, ◌∙◌, Option, None, Some, arith, length-append, length-drop, append_assoc, append-nil, bytes_eq, length-take-le, take-append-drop, take_all, if◌then◌else◌, ◌==◌, ◌&&◌, ◌||◌, not, nat_lt, option_and_then}
 use Rattle.std.proofs.{lemmas.Bool.Decides.nat_tests, lemmas.List.Sums.prefix_len-le-length}
 use Rattle.std.specs.Option.{option_map_or}

@@ -1,5 +1,5 @@
--- For matches: the time that a level allots to a side never falls with one move more (allotted_grows), since the
--- sessions begun don't, and the increments are added up.
+-- For crates above too: the time that a level allots to a side never falls with one move more (allotted_grows), since
+-- the number of sessions begun doesn't fall (sessions_grow), and each move adds an increment.
 use Rattle.std.proofs.Common.{◌≡◌, ℕ, zero, suc, ◌+◌, ◌*◌, ◌/◌, ◌≤◌, ◌<◌, arith, ne_eqb, false, div-mul-le_self, mul-le-mul_left, if◌then◌else◌, ◌==◌}
 use Rattle.std.proofs.lemmas.Nat.{le-div}
 use Rattle.cecp_engine.specs.Levels.{LevelSeen, allotted}

@@ -1,4 +1,4 @@
--- The value of an item as code cuts it from a text.
+-- The value of an item (`NAME=VALUE`), as code cuts it from a text.
 use Rattle.std.specs.Prelude.{ℕ, ◌+◌, ◌==◌, ◌&&◌, nat_lt, true, false, if◌then◌else◌, List, [], ◌∷◌, length, take, drop, Option, None, Some}
 use Rattle.std.specs.List.{position_or_len, prefix_len}
 use Rattle.byte_devices.specs.Bytes.{byte, is_digit}

@@ -1,6 +1,7 @@
 -- Induction over the acts of a match: what holds at its end, and before each kind of act if it holds after it (`Acts`),
--- holds of the whole match (`by_cases`). By this: nothing is read after an end or a failed read, and nothing is sent to
--- a side after a failed write to it.
+-- holds of the whole match (`by_cases`). By this: nothing is read after an end or a failed read, which end the match
+-- (`all_reads_end`), and nothing is sent to a side after a failed write to it, for which no block is due then
+-- (`all_sends_end`).
 use Rattle.std.proofs.Common.{◌≡◌, ℕ, Bool, true, false, List, [], ◌∷◌, ◌++◌, refl, ap, sym, ◌∙◌, subst, append-nil, Option, arith, if◌then◌else◌}
 use Rattle.std.proofs.lemmas.Bool.{and_parts}
 use Rattle.chess_base.specs.{declared.man.Colour.Colour, declared.man.Colour.TheVariants.White, Men.same_colour}

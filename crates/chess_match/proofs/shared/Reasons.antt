@@ -1,5 +1,5 @@
--- A match that is over by a failed write to a side, and also for a reason, is over for one reason only: so
--- `is_write_fault_of` is true of that reason and the side.
+-- A match that is over by a failed write to a side is over for no other reason: whatever its reason is,
+-- `is_write_fault_of` is true of it and that side (`unwritten`).
 use Rattle.std.proofs.Common.{◌≡◌, true, sym, ap, ◌∙◌}
 use Rattle.chess_base.specs.declared.man.Colour.{Colour}
 use Rattle.chess_base.proofs.shared.Men.{same_colour-self}

@@ -1,5 +1,6 @@
 -- A match whose last position has a verdict ended for this verdict, or before the first move by a fault
--- (`verdicts_end_matches`). The invariant is `Judged`, which each event keeps.
+-- (`verdicts_end_matches`). The invariant is `Judged`, which each line and silence keeps (by LineCases): while the
+-- match is on there is no move yet or no verdict, and once it ended for a verdict, the board has it.
 use Rattle.std.proofs.Common.{◌≡◌, ◌⊎◌, ℕ, Bool, true, false, List, [], refl, sym, ◌∙◌, subst, inl, inr, None, Some, arith}
 use Rattle.chess_base.specs.{declared.man.Colour.Colour, declared.man.Colour.TheVariants.White, declared.man.Move.Move}
 use Rattle.chess_game.specs.{declared.verdicts.Verdict.Verdict, Ends.verdict}

@@ -16,8 +16,8 @@ use Rattle.chess_match.specs.Lines.{SentLine, Says}
 abbrev pub enter : Phase → Match → Match
 enter phase m = record m { phase = phase; count = 0 }
 
--- from when on a reply is awaited, after a line of this kind came at `moment` in a handshake: from `moment`, if it is a
--- `feature` line; otherwise from `since`, as before
+-- the moment from which the time for a reply runs, after a line of this kind came at `moment` in a handshake: `moment`,
+-- if it is a `feature` line; otherwise `since`, as before (`None`: it doesn't run yet)
 abbrev pub since_counted : LineKind → ℕ → Option ℕ → Option ℕ
 since_counted (Features text) moment since = Some moment
 since_counted _ moment since = since
@@ -32,7 +32,8 @@ abbrev pub blocks_after : Colour → Effect → List Block
 blocks_after S done = blocks_from (if is_over done.after.phase then White else S) done.to
 
 -- the last lines for the side `S`, if the match ends in the state `m` for this reason, and writing to `S` did not fail:
--- the last move, if it is owed; the result, such as `result 1-0 {Black resigns}`; and `quit`
+-- the last move, if it is owed; the result, such as `result 1-0 {Black resigns}`, by the board's verdict if there is
+-- one, otherwise by the reason; and `quit`
 abbrev pub farewell : Rules → Match → Reason → Colour → List SentLine
 farewell r m reason S =
     list_if (is_owed_move m.phase S) (move_line r m S ∷ [])

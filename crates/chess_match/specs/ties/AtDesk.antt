@@ -17,7 +17,8 @@ use Rattle.chess_match.specs.Table.{Step, Does, LooksFor, ReadsLine, FindsNoLine
 use Rattle.chess_match.specs.declared.desk.Desk.{Desk}
 use Rattle.chess_match.specs.ties.EngineOutput.{OutputAt}
 
--- the acts at engines among these steps. A line or silence is given the moment 0: an engine's devices show no clock
+-- the acts at engines among these steps, in order. A line or silence is given the moment 0: an engine's devices show no
+-- clock
 abbrev pub acts_in : List Step → List Act
 acts_in [] = []
 acts_in (Does act ∷ K) = act ∷ acts_in K
@@ -99,6 +100,7 @@ abbrev pub LooksAt : {R W M L : Type 0} → (R → InputState) → (W → Output
 LooksAt input output shown noted old new side until step = Passes (passed_at input output shown noted old)
     (passed_at input output shown noted new) (LooksFor side until ∷ step ∷ [])
 
--- a bound on what can still be read at the desk `d`
+-- a number that gets smaller with each line that is read at the desk `d` and each look that finds none: the sum of both
+-- engines'
 abbrev pub left_at : {R W M L : Type 0} → (R → InputState) → Desk R W M L → ℕ
 left_at input d = work (input d.white_reader.now) d.lines.white + work (input d.black_reader.now) d.lines.black

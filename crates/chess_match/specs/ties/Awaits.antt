@@ -1,4 +1,4 @@
--- What a match waits for.
+-- What a match waits for, and until which moment.
 use Rattle.std.specs.Prelude.{◌≡◌, ◌+◌, ◌-◌, ◌^◌, ℕ, true, if◌then◌else◌, min, Option, None, Some, option_map}
 use Rattle.std.specs.Option.{option_map_or}
 use Rattle.cecp_engine.specs.Clocks.{remaining}
@@ -17,8 +17,10 @@ IsAwaited p (Line S) = awaits_line p S ≡ true
 IsAwaited p (Moment S) = p ≡ Opening S
 IsAwaited p (Nothing reason) = p ≡ Over reason
 
--- until which moment a line is waited for in this phase of the code, when its state is `core`: the first moment beyond
--- the limit, at most 2 ^ 64 - 1, and 0 if the time for a reply doesn't run yet; `None` if there is no limit
+-- until which moment a line is waited for in this phase of the code, when its state is `core`. Before a move, if flags
+-- fall without a line: the first moment at which the side has used more time than it had left. Otherwise, if replies
+-- have a limit: the first at which the reply is owed for longer, but 0 while its time doesn't run yet. At most 2 ^ 64 -
+-- 1; `None` if there is no limit
 abbrev pub until_of : MatchState → CorePhase → Option ℕ
 until_of core (core_in.AwaitMove S) =
     if core.patience.flag then Some (min (core.opened + remaining core.clocks S + 1) (2 ^ 64 - 1)) else None

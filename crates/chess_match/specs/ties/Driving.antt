@@ -31,7 +31,8 @@ looks_of until (OutputEnds S) = LooksFor S until ∷ []
 looks_of until (FailsToRead S) = LooksFor S until ∷ []
 looks_of until _ = []
 
--- the steps of an event, after the look for a line
+-- the steps of an event, after the look for a line: it is read, with the clock where it has a moment, and noted. Of a
+-- failed write only the note: its act is the block's
 abbrev pub steps_of : Event → List Step
 steps_of (Line S text moment) =
     ReadsLine S text ∷ ReadsClock S moment ∷ Notes (Happened (Line S text moment)) ∷ []
@@ -45,21 +46,22 @@ steps_of (FailsToWrite S) = Notes (Happened (FailsToWrite S)) ∷ []
 abbrev pub line_event : Colour → LineSeen → ℕ → Event
 line_event S line moment = Line S (text_read line) moment
 
--- the steps after a line of the side `S` was read
+-- the steps after a line of the side `S` was read: the clock is read, and the line noted
 abbrev pub after_line : Colour → Option (List ℕ) → ℕ → List Step
 after_line S text moment = ReadsClock S moment ∷ Notes (Happened (Line S text moment)) ∷ []
 
--- the steps after no line of the side `S` was found
+-- the steps after no line of the side `S` was found: the clock is read, and the silence noted
 abbrev pub after_silence : Colour → ℕ → List Step
 after_silence S moment = ReadsClock S moment ∷ Notes (Happened (Silent S moment)) ∷ []
 
--- the steps of sending these lines to the side `S`, none if there are no lines; `failed` says whether a write failed
+-- the steps of sending these lines to the side `S`, none if there are no lines: their bytes are noted, and then sent,
+-- or cannot be, as `failed` says
 abbrev pub giving : Bool → Colour → List SentLine → List Step
 giving failed S [] = []
 giving failed S (l ∷ ls) =
     Notes (Gives S (bytes_of (l ∷ ls))) ∷ Does (sending failed (record { to = S; lines = l ∷ ls })) ∷ []
 
--- whether the event is one of the output of the engine of the side `S`
+-- whether the event is one of the output of the engine of the side `S`: a line, a silence, the end or a failed read
 abbrev pub is_of_output : Colour → Event → Bool
 is_of_output S (Line c text moment) = same_colour c S
 is_of_output S (Silent c moment) = same_colour c S

@@ -1,4 +1,5 @@
--- What came from an engine so far, and which bytes of it are held: read, but not yet returned as lines.
+-- What came from an engine so far, and which bytes of it are held (read, but not yet returned as lines); and what one
+-- act more does to both.
 use Rattle.std.specs.Prelude.{◌≡◌, ◌⊎◌, ℕ, Bool, false, List, ◌++◌, map, Option}
 use Rattle.std.specs.Bool.{MatchBool}
 use Rattle.std.specs.Io.KnownBytes.{Consumes}
@@ -32,7 +33,9 @@ pub record OutputEnded (old new : InputState) (given : List ℕ) (texts : List (
 
 -- ---- one act more
 
--- what an act does to the output of the engine of the side `S`: nothing, where it reads none of it
+-- the act took the output of the engine of the side `S` from `r` to `r'`; `held` and `held'` are the bytes of it that
+-- were read and not yet returned, before and after. A line, an end, a failed read or a silence of `S` may have read
+-- more bytes (`more`); any other act leaves both as they were
 abbrev pub OutputAt : Colour → Act → InputState → InputState → Held → Held → Type 0
 OutputAt S (Happens (Line c text moment)) r r' held held' =
     MatchBool (same_colour c S) ((more : List ℕ) × Consumes r.known_bytes r'.known_bytes more

@@ -63,7 +63,7 @@ phase_of opened (core_in.AwaitMove c) = BeforeMove c opened
 phase_of opened (core_in.AwaitPong c) = AfterMove c
 phase_of opened (core_in.Over reason) = Over reason
 
--- whether the side `S` is still to be sent the last move, by what the code keeps of this move
+-- whether the side `S` is still to be sent the last move, by what the code keeps of this move (`None`: there is none)
 abbrev pub is_unsent : Option LastMove → Colour → Bool
 is_unsent last S = option_map_or (λ c. same_colour c S) (unsent_in last) false
 

@@ -19,7 +19,7 @@ abbrev pub AreOfLast : Rules → Option LastMove → List Move → Type 0
 AreOfLast r None played = played ≡ []
 AreOfLast r (Some last) played = (0 < length played) × AreTexts r last.texts played
 
--- who is still to be sent the last move, by what is kept of it
+-- which side is still to be sent the last move, by what is kept of it; `None` if neither is, or there is no move
 abbrev pub unsent_in : Option LastMove → Option Colour
 unsent_in None = None
 unsent_in (Some last) = last.unsent_to

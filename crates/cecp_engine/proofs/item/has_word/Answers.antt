@@ -1,5 +1,5 @@
--- At first no piece has begun (cut_at_once). Then the byte at `at` either belongs to the piece (over_byte), or it ends
--- a piece that isn't the word (over_mark).
+-- The loop's invariant holds at first, when no entry of the list has begun (cut_at_once), and each byte keeps it: the
+-- byte at `at` either belongs to the entry being read (over_byte), or it ends one that isn't the word (over_mark).
 use Rattle.std.proofs.Common.{sym, ◌∙◌, arith}
 use Rattle.cecp_engine.proofs.Pieces.{cut_at_once, over_byte, over_mark}
 use Rattle.cecp_engine.proofs.item.has_word.Goals.{then-is_comma_or_blank+else-eq, else-is_comma_or_blank}

@@ -1,6 +1,6 @@
--- The loop's invariant: the piece that is being read goes from `from` to `at`, and none before it is the word; so
--- whether the text has the word is what has_word_after says of this piece and the bytes from `at` on. The measure:
--- these bytes.
+-- The loop's invariant: the entry of the list that is being read goes from `from` to `at`, and none before it is the
+-- word; so whether the text has the word is what has_word_after says of this entry and the bytes from `at` on. The
+-- measure: how many these are.
 use Rattle.std.proofs.Common.{length, drop, take, ◌-◌, ◌≡◌, ◌≤◌, bytes_eq}
 use Rattle.std.specs.List.{list_any, slice_split}
 use Rattle.cecp_engine.proofs.Pieces.{is_comma_or_blank, has_word_after}

@@ -1,4 +1,5 @@
--- A quote that is not closed gives no value (shared.Items.unclosed).
+-- A quote that is not closed gives no value, in the code as in the definition (shared.Items.unclosed); the check finds
+-- all other cases itself.
 use Rattle.cecp_engine.proofs.shared.Items.{unclosed}
 use Rattle.cecp_engine.proofs.item.read_value.Goals as goal
 

@@ -1,5 +1,5 @@
--- The features kept of the engine say whether it has `time` on, so the two lines of the clocks are put, or none
--- (Sends.clocks_kept).
+-- The bytes put are those of the lines that the definition `clocks` gives this side: `time` and `otim` if the features
+-- kept of its engine have `time` on, otherwise none (Sends.clocks_kept, in both cases of the `if`).
 use Rattle.std.proofs.Common.{sym, true, false, append-nil}
 use Rattle.chess_match.specs.Lines.{bytes_of}
 use Rattle.chess_match.proofs.Sends.{clocks_kept}

@@ -1,5 +1,6 @@
--- Each phase but the end has lines only for the side that it waits for. The end has lines for each side, but none for
--- one to which a failed write ended the match. Where there are no lines nothing is put (Sends.same_end).
+-- The bytes put are those of `phase_lines`. Of its cases the check needs a proof only for a handshake, where the side
+-- that is awaited is sent `xboard` and `protover 2` (Sends.handshake_bytes). A side that has no lines in the phase is
+-- put nothing (Sends.same_end, named at the function).
 use Rattle.std.proofs.Common.{◌≡◌, ◌++◌, List, sym, ◌∙◌, ap, true, ℕ}
 use Rattle.chess_base.specs.Men.{same_colour}
 use Rattle.chess_match.proofs.Sends.{handshake_bytes}

@@ -1,5 +1,6 @@
--- A side's clock counts the moves that it made in the match (CoreSteps.clocks_moves): with none, its opening is the
--- first, which has the move before the clocks and `go` after them.
+-- The bytes put are those of the definition's `opening`, by whether the side's clock has counted moves: it counts those
+-- of the match (CoreSteps.clocks_moves). If it has, `add_later_opening` puts them. If not, this is the side's first
+-- opening, whose three parts are joined: the last move, the clocks and `go`.
 use Rattle.std.proofs.Common.{◌≡◌, ◌++◌, ◌∷◌, [], append_assoc, true, false, length, arith, lt-ltb, le-ltb, nat_lt, codes}
 use Rattle.chess_match.specs.{Lines.Says, ties.Delivering.clocks, ties.Delivering.last_move}
 use Rattle.chess_match.proofs.{CoreSteps.clocks_moves, shared.Lines.bytes_of-append, Sends.go_line}

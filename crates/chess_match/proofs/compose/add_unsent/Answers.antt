@@ -1,5 +1,5 @@
--- If this side is still to be sent the last move, its line is put (Sends.unsent_own). If the other side is, or nobody,
--- no line is due, and nothing is put.
+-- If this side is still to be sent the last move, `add_last` puts it, and it is the one line that is due
+-- (Sends.unsent_own). Where the other side is, or nobody, no line is due and none is put, which the check finds itself.
 use Rattle.std.proofs.Common.{◌++◌, List, sym, ap, ◌∙◌}
 use Rattle.chess_match.specs.Lines.{SentLine, bytes_of}
 use Rattle.chess_match.proofs.Sends.{unsent_own}

@@ -1,5 +1,6 @@
--- In a match that is over both blocks are sent, White's first (`send_last`). Otherwise the first write fails, or the
--- second, or neither; for each case there is a lemma of Deliveries.
+-- The blocks of an event were sent as `Delivered` says, by cases. In a match that is over both sides are sent their end
+-- lines, White first, whichever side the event is about (`send_last`). Otherwise the first write fails, or the second,
+-- or neither; for each case there is a lemma of Deliveries.
 use Rattle.std.proofs.Common.{◌≡◌, [], ap, refl, sym, ◌∙◌, true, false}
 use Rattle.chess_base.specs.{declared.man.Colour.Colour, declared.man.Colour.TheVariants.White, declared.man.Colour.TheVariants.Black, Men.other}
 use Rattle.chess_match.specs.{Acts.block_of, Acts.is_over, Lines.bytes_of, Effects.answers_to, ties.Driving.giving}

@@ -1,6 +1,7 @@
--- The loop's invariant (`OnTheWay`) holds once the first lines were sent; each round keeps it and makes the measure
--- fall, by an event (OnTheWay.went_on) or by the moment of an opening (OnTheWay.opened_on); at the end it gives the
--- contract (OnTheWay.played_at).
+-- The loop's invariant (`OnTheWay`, and what the game and the blocks are) holds once the first lines were sent. Each
+-- round keeps it and makes the measure fall, by an event (OnTheWay.went_on, went_less) or by the moment of an opening
+-- (OnTheWay.opened_on, opened_less); it also gives what `take_next` requires. At the end it gives the contract
+-- (OnTheWay.played_at).
 use Rattle.std.proofs.Common.{List, [], ◌∷◌, refl, ap, sym, ◌∙◌, subst, ℕ}
 use Rattle.chess_base.specs.{declared.man.Colour.Colour, declared.man.Move.Move, declared.setup.Setup.Setup}
 use Rattle.chess_game.specs.Game as game

@@ -1,5 +1,6 @@
--- From the steps that passed at the desk follows what each of its devices shows (DesksPlayed); the desk still holds the
--- same references.
+-- From the steps that passed at the desk follows what each of its devices shows (DesksPlayed.desk_ran). The references
+-- in the desk at the end are those that it was made with, by their names, which stay (DesksPlayed.names_kept): so
+-- White's and Black's ends are given back with their own readers and writers.
 use Rattle.std.proofs.Common.{◌≡◌, ℕ, [], ◌∷◌, ap}
 use Rattle.chess_base.specs.ByColour.{by_colour}
 use Rattle.text_lines.specs.Lines.{nothing_held}

@@ -1,4 +1,6 @@
--- Each case gives the event that was taken: a line, a silence, the output's end, or a read that failed (Takings).
+-- The clause `taken`, by the result of the read: it failed, no line had come, the output ended (without a line, or with
+-- bytes after the last `\n`), or a line was read. For each: the event taken, its steps at the table (Takings), and that
+-- after a line or a silence less is to come. What the core then does is a clause of the method called.
 use Rattle.std.proofs.Common.{◌∷◌, [], ℕ, Bool, Option, Ok, Some, refl, ap, sym, subst, ◌∙◌, ◌<◌, is_some}
 use Rattle.chess_base.proofs.shared.Men.{same_colour-self}
 use Rattle.chess_match.specs.{Acts.Happens, Notes.Happened, Run.text_read, ties.Driving.after_line, ties.Driving.after_silence, ties.Represents.nothing_said}

@@ -1,4 +1,5 @@
--- An empty text is neither noted nor sent. Any other is noted first, and then sent (Passings).
+-- An empty text is neither noted nor sent: it has no lines, so no step is due (Passings.given_nothing). Any other is
+-- noted first, and then sent, or cannot be (Passings.given_lines).
 use Rattle.std.proofs.Common.{◌∷◌, [], Bool, false, subst, sym}
 use Rattle.chess_match.specs.Table.{Does, Passes, sending}
 use Rattle.chess_match.proofs.{Due.is_nil, Due.is_some_text, Passings.given_lines, Passings.given_nothing}

@@ -1,5 +1,6 @@
 -- The text that is sent has the answers that wait in the block, and after them the rest that `given` asks for: together
--- the bytes of the effect's lines for this side (Sends.given_bytes).
+-- the bytes of the effect's lines for this side (Sends.given_bytes). If sending failed, the text was not empty, so
+-- there are lines (Due.some_lines).
 use Rattle.std.proofs.Common.{◌++◌, List, ℕ, ap, sym, ◌∙◌}
 use Rattle.chess_match.specs.{Lines.bytes_of, ties.Represents.after_answers}
 use Rattle.chess_match.proofs.{Due.some_lines, Sends.given_bytes}

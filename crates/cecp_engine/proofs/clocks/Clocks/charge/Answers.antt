@@ -1,6 +1,6 @@
--- A move in time keeps the time used within what the level gives, which never falls with a move more
--- (Allotment.within_more). The level gives at most 2 ^ 62 milliseconds, so the sum doesn't overflow
--- (Allotment.room_more).
+-- For White and for Black: a move in time keeps the time used within what the level gives, which never falls with a
+-- move more (Allotment.within_more), so the invariant of clocks holds. The level gives at most 2 ^ 62 milliseconds, so
+-- the sum doesn't overflow (Allotment.room_more).
 use Rattle.std.proofs.Common.{arith, sym, ◌≤◌, ◌<◌, ◌+◌, ◌-◌}
 use Rattle.cecp_engine.specs.Levels.{allotted}
 use Rattle.cecp_engine.proofs.Allotment.{within_more, room_more}

@@ -1,4 +1,5 @@
--- The text is that of the definition, and of it all bytes are ASCII (LevelTexts.level_ascii).
+-- All bytes of the text are ASCII: it is the text of the definition, appended part by part, and of that all bytes are
+-- ASCII (LevelTexts.level_ascii), since the level's numbers are within their bounds.
 use Rattle.std.proofs.Common.{◌≡◌, sym, subst, append_assoc, arith, IsAscii}
 use Rattle.cecp_engine.specs.Levels.{level_text}
 use Rattle.cecp_engine.proofs.LevelTexts.{level_ascii}

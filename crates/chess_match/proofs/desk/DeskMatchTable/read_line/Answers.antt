@@ -1,4 +1,5 @@
--- The next line was read from one pipe, which is one look at the table (AtDesk.read_moves); all else stays as it was.
+-- For White's pipe and for Black's: a call for the next line is two steps at the table, the look and what it found
+-- (AtDesk.read_moves). The other pipes, the clock and the witness stay as they were.
 use Rattle.std.proofs.Common.{refl}
 use Rattle.chess_base.specs.declared.man.Colour.TheVariants.{White, Black}
 use Rattle.chess_match.proofs.AtDesk.{read_moves}

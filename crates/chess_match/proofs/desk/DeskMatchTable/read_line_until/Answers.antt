@@ -1,5 +1,6 @@
--- The next line was read from one pipe, or had not come in time, which is one look at the table (AtDesk.until_moves);
--- all else stays as it was.
+-- For White's pipe and for Black's: a call for the next line with a limit is two steps at the table, the look and what
+-- it found, also that no line had come in time (AtDesk.until_moves). The other pipes, the clock and the witness stay as
+-- they were.
 use Rattle.std.proofs.Common.{refl}
 use Rattle.chess_base.specs.declared.man.Colour.TheVariants.{White, Black}
 use Rattle.chess_match.proofs.AtDesk.{until_moves}

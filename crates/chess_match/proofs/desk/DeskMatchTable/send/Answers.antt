@@ -1,5 +1,5 @@
--- The text was written and flushed at one pipe, or a call failed (SentNow), which is one step at the table
--- (AtDesk.send_moves); all else stays as it was.
+-- For White's pipe and for Black's: the text was written and flushed, or a call failed (SentNow), which is one step at
+-- the table, of any lines with these bytes (AtDesk.send_moves). All other devices stay as they were.
 use Rattle.std.proofs.Common.{refl, is_err}
 use Rattle.chess_base.specs.declared.man.Colour.TheVariants.{White, Black}
 use Rattle.chess_match.proofs.{AtDesk.send_moves, SentNow.sent_now}

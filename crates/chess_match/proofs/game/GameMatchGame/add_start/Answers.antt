@@ -1,5 +1,5 @@
--- The game's start is that of the rules, so the same FEN is sent, or none; the line `setboard FEN` is put in three
--- parts.
+-- If the start has a FEN to be sent, the bytes put are those of the line `setboard FEN`, put in three parts
+-- (`in_parts`). It is the FEN of the definition (`start_fen`), since the game has the start of the rules.
 use Rattle.std.proofs.Common.{◌≡◌, ℕ, List, [], ◌∷◌, ◌++◌, ap, sym, ◌∙◌, append_assoc, Some}
 use Rattle.chess_match.specs.{Rules.Rules, Rules.start_fen, Lines.bytes_of}
 use Rattle.chess_match.proofs.game.GameMatchGame.add_start.Goals as goal

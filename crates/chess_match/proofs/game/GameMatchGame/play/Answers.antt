@@ -1,5 +1,6 @@
--- The move is legal, so its SAN can be begun before it is played; the check mark that is added then is that of the
--- position after it (LastMoves.texts_of_last).
+-- The game accepts the move (Playing.playable), and the move is legal, so its SAN can be begun before it is played
+-- (Playing.legal_read). The two texts are those of the last move: the check mark, which is added after the move, is
+-- that of the position after it (LastMoves.texts_of_last).
 use Rattle.std.proofs.Common.{◌≡◌, List, [], ◌∷◌, ◌++◌, ap, sym, ◌∙◌}
 use Rattle.chess_base.specs.{declared.man.Move.Move, declared.setup.Setup.Setup, Moves.after}
 use Rattle.chess_game.specs.Game as game

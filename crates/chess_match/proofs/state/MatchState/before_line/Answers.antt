@@ -1,5 +1,6 @@
 -- The clock and the opening's moment are those of the match, so the flag falls in the core where it falls in the match
--- (CoreSteps.flag_kept). If it hasn't fallen, `move_line` and `turn_line` go on by the line.
+-- (CoreSteps.flag_kept). If it has fallen, `fall_flag` ends the match; otherwise the time for a reply runs from this
+-- line, and `move_line` goes on by a move, `turn_line` by any other line.
 use Rattle.std.proofs.Common.{◌-◌, ap}
 use Rattle.chess_match.specs.{Acts.is_over, Effects.awaited_since}
 use Rattle.chess_match.proofs.{CoreSteps.flag_kept, OtherLines.before_other}

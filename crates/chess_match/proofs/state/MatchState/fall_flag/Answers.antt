@@ -1,4 +1,5 @@
--- The game's position is that of the match, so code and definition agree on whether the other side has only its king.
+-- The match ends as `flag_row` says: drawn, if the other side has only its king, and otherwise lost on time. The game's
+-- position is that of the match, so code and definition agree on which.
 use Rattle.std.proofs.Common.{◌≡◌, true, false, sym}
 use Rattle.chess_base.specs.Men.{other}
 use Rattle.chess_game.specs.Line.{position_after}

@@ -1,5 +1,6 @@
--- The features kept of an engine are those of its items, so code and definition find the same lacking: first in White's
--- engine, then in Black's.
+-- After White's handshake comes Black's; after Black's, the match ends if an engine lacks a feature, White's looked at
+-- first, and otherwise White's setup comes. The features kept of an engine are those of its items, so code and
+-- definition find the same fault.
 use Rattle.std.proofs.Common.{◌≡◌, sym, ◌∙◌, ap, Some, None}
 use Rattle.chess_base.specs.declared.man.Colour.TheVariants.{White, Black}
 use Rattle.chess_match.specs.{Acts.is_over, Effects.is_owed_move, Effects.missing}

@@ -1,5 +1,6 @@
--- With the line's items taken over, the core stands for the match with these items added. What the line then gives is
--- sent after the answers to them (CoreSteps.answered_goes).
+-- Three cases: `done=1` is among the line's items, the line is the 1,000th without it, or any other. In each the core,
+-- with the items taken over, represents the match with these items added; what it then gives is sent after the answers
+-- to them (CoreSteps.answered_goes).
 use Rattle.std.proofs.Common.{◌≡◌, ◌+◌, true, false, sym, ap, arith, le-leb, nat_le}
 use Rattle.std.specs.List.{list_any}
 use Rattle.std.proofs.lemmas.Bool.{lt-leb}

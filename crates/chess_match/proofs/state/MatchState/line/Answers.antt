@@ -1,5 +1,6 @@
--- The phase of the core is that of the match, and each phase has a function whose contract is the row of that phase; in
--- an opening or at the end no line is read.
+-- Four phases await a line, and each has a function whose contract is the row of that phase; the phase of the core is
+-- that of the match, so the row is the line's effect (CoreSteps.row_goes). In a handshake, the answers put into the
+-- block are those to the items for the side that sent the line (Sends.answers_own).
 use Rattle.std.proofs.Common.{ap, ◌∙◌}
 use Rattle.chess_match.specs.ties.Represents.{phase_of}
 use Rattle.chess_match.proofs.{CoreSteps.row_goes, CoreSteps.shaken_goes, Sends.answers_own}

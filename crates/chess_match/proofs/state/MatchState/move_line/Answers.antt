@@ -1,5 +1,6 @@
--- The moves of the game are those of the match, so both find the game full, the text illegal or the match over by its
--- position. A move that is played leaves a core that stands for the match with that move (CoreSteps.moved_stands).
+-- The moves of the game are those of the match, so code and definition take the same of four cases: the game is full,
+-- the text denotes no legal move, the position after the move ends the match, or the match goes on with a `ping`. After
+-- a move the core represents the match with that move (CoreSteps.moved_stands).
 use Rattle.std.proofs.Common.{◌≡◌, ◌∙◌, ap, [], ◌∷◌, ◌++◌, true, false, refl, sym, Some, None, length, nat_le}
 use Rattle.chess_match.specs.{Effects.moved, Effects.over_by_position, declared.state.MatchState.MatchState}
 use Rattle.chess_match.proofs.{CoreSteps.moved_stands, CoreSteps.over_by_goes, CoreSteps.pinged_goes, OtherLines.illegal_move}

@@ -1,5 +1,6 @@
--- The open offers are those of the match, and what is kept of the other engine says whether it takes draws, so
--- that it is sent a new offer exactly where the match says so (CoreSteps.offered_goes).
+-- Three cases, the same in core and match, since their open offers are: the other's offer is open (a draw is agreed),
+-- only the side's own is (the offer is ignored), or neither. Then the side's offer is opened, and the other engine is
+-- sent it if it takes draws, by the features kept of it as by its items (CoreSteps.offered_goes).
 use Rattle.std.proofs.Common.{◌≡◌, true, false, ◌∙◌, ap, codes}
 use Rattle.chess_base.specs.Men.{other}
 use Rattle.cecp_engine.specs.{Items.takes, declared.features.Features.Features}

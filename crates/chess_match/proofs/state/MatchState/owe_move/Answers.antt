@@ -1,5 +1,6 @@
 -- The clock and the opening's moment are those of the match, so the flag falls in the core where it falls in the match
--- (CoreSteps.flag_kept).
+-- (CoreSteps.flag_kept). If it falls, the match ends (`fall_flag`); otherwise nothing changes and nothing is sent
+-- (CoreSteps.quiet_goes).
 use Rattle.std.proofs.Common.{ap}
 use Rattle.chess_match.specs.Acts.{is_over}
 use Rattle.chess_match.proofs.CoreSteps.{flag_kept, quiet_goes, silence_goes}

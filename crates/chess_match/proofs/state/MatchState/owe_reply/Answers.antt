@@ -1,5 +1,6 @@
 -- The limit and the moment from which the time runs are those of the match, so the time is over in the core where it is
--- over in the match (CoreSteps.reply_kept).
+-- over in the match (CoreSteps.reply_kept). If it is over, the match ends by the fault; otherwise nothing is sent, and
+-- the time runs on, or from this silence if it didn't run before (CoreSteps.quiet_since).
 use Rattle.std.proofs.Common.{true, false}
 use Rattle.chess_match.proofs.CoreSteps.{quiet_since, reply_kept}
 use Rattle.chess_match.proofs.state.MatchState.owe_reply.Goals as goal

@@ -1,5 +1,6 @@
--- The game and its position are those of the match: after White's setup comes Black's, and after that the end by the
--- start or the turn of the side on move there.
+-- Three cases: after White's setup comes Black's; after Black's the match ends if its start position ends it, and
+-- otherwise the side on move there has its turn opened. The game and its position are those of the match, so code and
+-- definition take the same case.
 use Rattle.std.proofs.Common.{◌≡◌, ap, sym, ◌∙◌, Some, None}
 use Rattle.chess_match.specs.{Acts.is_over, Effects.is_owed_move, Effects.over_by_position}
 use Rattle.chess_match.proofs.CoreSteps.{first_opens, over_by_goes}

@@ -1,4 +1,5 @@
--- By the kind of the line: the answer to `ping 1` makes the side ready, any other line is ignored.
+-- By the kind of the line: `pong 1` restarts the time for a reply and ends the setup (`ready`); a `pong` with another
+-- number and any other line are ignored (`ignore`).
 use Rattle.std.proofs.Common.{◌≡◌, true, false, ap, eq-eqb, ne_eqb, ◌==◌}
 use Rattle.chess_match.specs.{Acts.is_over, Effects.awaited_since}
 use Rattle.chess_match.proofs.OtherLines.{setup_other}

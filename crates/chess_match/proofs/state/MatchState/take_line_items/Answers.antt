@@ -1,5 +1,6 @@
--- A `feature` line's items are taken over, and the time for the next one runs from it; taking over none leaves what the
--- core stands for (CoreSteps.no_items_stand).
+-- What the core represents afterwards (the clause `taken`). After a `feature` line: the match with the line's items
+-- added, in which the time for the next reply runs from this line. Any other line has no items
+-- (OtherLines.no_items_said), so it is the match as before (CoreSteps.no_items_stand).
 use Rattle.std.proofs.Common.{ℕ, [], ◌++◌, Option, subst, sym}
 use Rattle.chess_match.specs.{Effects.awaited_since, Effects.with_seat, ties.Represents.Represents}
 use Rattle.chess_match.proofs.{CoreSteps.no_items_stand, OtherLines.no_items_said, OtherLines.uncounted}

@@ -1,4 +1,5 @@
--- The game's claim, the offers and the counts of moves are those of the match, so each kind of line does in the core
+-- By the kind of the line: a resignation, an offer or a claim of a draw, a claim of a win, a rejected move, or any
+-- other line. The game's claim, the offers and the counts of moves are those of the match, so each does in the core
 -- what `turn_row` says of it.
 use Rattle.std.proofs.Common.{◌≡◌, true, false, sym, ◌∙◌, Some, None, arith, length, lt-ltb, le-ltb, nat_lt}
 use Rattle.chess_base.specs.Men.{other, same_colour}
