@@ -1,5 +1,6 @@
--- Two facts of each row of the table of commands (`row`), shown command by command: the session ends just if the
--- command is `quit` (line_ends), and an answer that is a refusal changes nothing (refused_keeps).
+-- Two facts of each row of the table of commands (`row`), shown command by command (`row_obeys`): the session ends just
+-- if the command is `quit` (line_ends), and an answer that is a refusal changes nothing (refused_keeps, refused).
+-- Besides, no line changes a session's tags and limit (tags_and_limit_stay).
 use Rattle.std.proofs.Common.{◌≡◌, ℕ, ◌==◌, ◌&&◌, ◌||◌, inl, inr, Bool, true, false, List, [], ◌∷◌, ◌++◌, get_or, codes, refl, sym, ap, ◌∙◌, if◌then◌else◌, length, Option, None, Some, bytes_eq, nat_le, nat_lt, not, Result, Ok, Err}
 use Rattle.std.specs.Option.{option_map_or}
 use Rattle.chess_base.specs.{declared.fen_fault.FenFault.FenFault, declared.man.Variant.TheVariants.Fischerandom, declared.setup.Setup.Setup, Initial.initial_setup, Initial.initial_setup_of}

@@ -1,5 +1,6 @@
--- No clock underflows: the moves of a side take no more time than it was given (`AreInTime`). Each act keeps this,
--- since a move is played only in time, and more moves give no less time.
+-- No clock underflows: what a side has left and what its moves took add up to what it was given, since they took no
+-- more than that (`AreInTime`). Each act keeps this: a move is played only in time, and after more moves no less time
+-- is given.
 use Rattle.std.proofs.Common.{◌≡◌, ℕ, ◌+◌, ◌-◌, ◌≤◌, Bool, true, false, List, [], ◌∷◌, ◌++◌, length, length-append, refl, subst, arith, ap, ◌∙◌, zero-add, if◌then◌else◌, sum}
 use Rattle.chess_base.specs.{declared.man.Colour.Colour, declared.man.Move.Move, Men.same_colour}
 use Rattle.chess_base.proofs.shared.Men.{same_colour-true}

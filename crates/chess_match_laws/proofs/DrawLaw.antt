@@ -1,5 +1,6 @@
--- Where draws are automatic, a match after whose moves a draw may be claimed ended for it. The invariant (`Drawn`),
--- which each act keeps: before the first turn there is no move, and later, while the match is on, no such draw.
+-- Where draws are automatic: if a draw may be claimed after the moves of a match, and the board has no verdict, the
+-- match ended for this draw, or by a fault before its first move. The invariant (`Drawn`), which each act keeps: before
+-- the first turn there is no move, and later, while the match is on, no such draw.
 use Rattle.std.proofs.Common.{◌≡◌, ◌⊎◌, true, false, List, [], refl, ap, sym, ◌∙◌, subst, inl, inr, None, Some}
 use Rattle.chess_base.specs.{declared.man.Colour.Colour, declared.man.Colour.TheVariants.White, declared.man.Move.Move}
 use Rattle.chess_game.specs.{declared.verdicts.DrawClaim.DrawClaim, declared.verdicts.Verdict.Verdict, Ends.claims, Ends.draw_claim, Ends.verdict}

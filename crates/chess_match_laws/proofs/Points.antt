@@ -1,6 +1,7 @@
--- Induction over the acts of a match up to a moment (`by_points`, from MatchCases.by_acts of chess_match). At each act
--- it may be used that the side to move and the number of used times agree with the moves played (`Kept`). And what
--- holds at each moment holds of a whole match (`in_each`).
+-- Induction over the acts of a match up to a moment (by_points, from MatchCases.by_acts of chess_match). At each act it
+-- may be used that the side to move and the number of used times agree with the moves played (`Kept`), and that a match
+-- that is over stays as it is. A match ends in the state after all its acts (end_after_acts), so what holds at each
+-- moment holds of a whole match (in_each).
 use Rattle.std.proofs.Common.{◌≡◌, ℕ, ◌+◌, ◌-◌, ◌<◌, Bool, true, false, List, [], ◌∷◌, ◌++◌, length, length-append, refl, ap, sym, ◌∙◌, subst, append-nil, Option, arith, if◌then◌else◌}
 use Rattle.chess_base.specs.{declared.man.Colour.Colour, declared.man.Colour.TheVariants.White, declared.man.Move.Move, Men.other, Men.same_colour}
 use Rattle.cecp_engine.specs.EngineLines.{LineKind}
