@@ -1,6 +1,7 @@
--- What serve_lines does, as the claim `Served` says it. The loop's invariant is SoFar: all lines reached were answered,
--- and the server ended with none of them. It holds at the start (start), an answer more keeps it (go_on), and each way
--- out of the loop gives `Served`: by_line, by_write, by_last, by_end, by_read.
+-- What serve_lines does, as the claim `Served` says it. The loop's invariant (SoFar): all lines reached were answered,
+-- and the server ended with none of them. It holds at the start (start), and an answer more keeps it (go_on). Each way
+-- out gives `Served`: a line that ends the server (by_line), a failed write (by_write), a last line without `\n`
+-- (by_last), the input's end (by_end), a failed read (by_read).
 use Rattle.std.proofs.Common.{◌≡◌, ℕ, ◌+◌, ◌-◌, ◌≤◌, inl, inr, Bool, true, false, List, [], ◌∷◌, ◌++◌, length, Some, None, Ok, Err, refl, sym, ap, ◌∙◌, arith, append_assoc, append-nil, length-append, if◌then◌else◌, subst, slice_get, MatchBool}
 use Rattle.std.proofs.{Math.Seq.take-append-add, Math.Seq.take-append_seam, lemmas.Grind.common_steps}
 use Rattle.std.specs.Io.KnownBytes.{Consumes, IsAtEnd}
