@@ -47,13 +47,13 @@ pub enum Go {
     Quit,
 }
 
-// How a line is answered.
+// How a line is answered once it has been obeyed.
 enum Reply {
-    // The text in the buffer, and whether the session goes on after it.
+    // By the text that was put together, and whether the session continues after it.
     Text(Go),
-    // The legal moves.
+    // By the legal moves (`showmoves`).
     Moves,
-    // The game's text.
+    // By the game's PGN (`showpgn`).
     Pgn,
 }
 
@@ -303,7 +303,7 @@ impl<B: Board> Session<B> {
         }
     }
 
-    // Answers `showfen`: `# fen ` and the FEN of the current position, to `answer`.
+    // Puts the answer to `showfen` together: the line of `# fen ` and the FEN of the current position.
     fn show_fen(&self, answer: &mut Answer)
         requires { answer.old.items ≡ [] }
         ensures { answer.new.items ≡ joined_line (codes "# fen ") (fen (current self.now.state)) }
@@ -312,8 +312,8 @@ impl<B: Board> Session<B> {
         write_line(answer, b"# fen ", fen.as_slice());
     }
 
-    // Obeys a command: changes the game, and puts the answer together; but for `showmoves` and `showpgn`, whose answers
-    // are written later. `text` is the whole line, `argument` what follows its first word.
+    // Obeys a command: changes the game, and puts the answer together, except for those to `showmoves` and `showpgn`,
+    // which are written later. `text` is the whole line, `argument` what follows its first word.
     fn obey(&mut self, command: Command, text: &[u8], argument: &[u8], answer: &mut Answer)
         requires short { length text.now ≤ COMMAND_LEN }
         requires short_argument { length argument.now ≤ COMMAND_LEN }
@@ -371,8 +371,8 @@ impl<B: Board> Session<B> {
         }
     }
 
-    // Obeys a line: changes the game, puts the answer together, but for `showmoves` and `showpgn`, and returns how the
-    // line is then answered.
+    // Obeys a line: changes the game, puts the answer together, except for those to `showmoves` and `showpgn`, and
+    // returns how the line is then answered: by that text, by the legal moves or by the game's PGN.
     #[tactic(auto, unfolding(crate::specs::Session::session_response, crate::specs::ties::Replies::is_quit, crate::specs::ties::Replies::asks_for_moves, crate::specs::ties::Replies::asks_for_pgn, crate::specs::Commands::command_of))]
     fn obey_line(&mut self, line: &Line<COMMAND_LEN>, answer: &mut Answer) -> Reply
         requires { answer.old.items ≡ [] }
@@ -434,7 +434,7 @@ impl<B: Board> Session<B> {
         ensures go { IfOk result
             (λ go. go ≡ (if (session_response self.old line.now).ends then Go.Quit else Go.On)) }
 
-        // Two facts that follow from the table: a refusal changes nothing, and tags and limit never change.
+        // Two facts that follow from the table of commands: a refusal changes nothing, and tags and limit never change.
         ensures refused { IsRefusal (session_response self.old line.now).text → self.new ≡ self.old }
         ensures kept { (self.new.tags ≡ self.old.tags) × (self.new.limit ≡ self.old.limit) }
     {

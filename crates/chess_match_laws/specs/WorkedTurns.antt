@@ -1,4 +1,4 @@
--- What lines and silences of engines do in a match, worked out.
+-- What lines and silences of engines do in a match, in examples.
 use Rattle.std.specs.Prelude.{◌≡◌, ℕ, Bool, true, false, List, [], ◌∷◌, codes, map, option_map, Option, None, Some}
 use Prim.Native.String.{String as Text}
 use Rattle.std.specs.Result.{result_ok}
