@@ -75,7 +75,7 @@ impl<B: Board> LineServer for Session<B> {
     ghost respond = { session_response };
 
     // Answers a line of a session: changes the game, writes the answer, and flushes the writer. Returns whether the
-    // session goes on.
+    // session continues.
     fn answer_line<W: Output>(
         &mut self,
         line: &Line<COMMAND_LEN>,

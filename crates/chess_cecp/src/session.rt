@@ -132,8 +132,8 @@ impl<B: Board> Session<B> {
         }
     }
 
-    // Plays the move that `text` was read as (`read`), and answers with the board's verdict, if there is one; or
-    // refuses the text.
+    // Plays the move that `text` denotes (`read` is what `text` was read as), and answers with the board's verdict, if
+    // there is one; or refuses the text, if it denotes no legal move or no move can be played now.
     fn play(&mut self, read: Reading, text: &[u8], answer: &mut Answer)
         requires read { read ≡ reading (current self.old.state) text.now }
         requires legal { IsLegalReading (current self.old.state) read }
@@ -193,8 +193,8 @@ impl<B: Board> Session<B> {
         }
     }
 
-    // Obeys `variant` by its argument: `fischerandom` starts the game anew in Chess960, `normal` goes over to normal
-    // chess, any other name is refused. `text` is the whole line.
+    // Obeys `variant` by its argument: `fischerandom` starts the game anew in Chess960, `normal` in normal chess unless
+    // it is of normal chess already, and any other name is refused. `text` is the whole line.
     fn change_variant(&mut self, text: &[u8], argument: &[u8], answer: &mut Answer)
         requires short { length text.now ≤ COMMAND_LEN }
         requires empty { answer.old.items ≡ [] }
@@ -213,7 +213,8 @@ impl<B: Board> Session<B> {
         write_line(answer, b"Error (unsupported variant): ", text);
     }
 
-    // Obeys `variant normal`: a game of Chess960 starts anew as one of normal chess, and one of normal chess goes on.
+    // Obeys `variant normal`: a game of Chess960 starts anew as one of normal chess, and one of normal chess stays as
+    // it is.
     fn leave_chess960(&mut self)
         ensures { self.new ≡ after_row self.old (becomes
             (if is_fischerandom self.old.state.start.variant then from_start initial_setup else self.old.state)) }
@@ -457,7 +458,7 @@ impl<B: Board> Session<B> {
 }
 
 // How a command is answered: `showmoves` by the legal moves, `showpgn` by the game's PGN, all others by the text put
-// together; and whether the session goes on, which it does unless the command is `quit`.
+// together; and whether the session continues, which it does unless the command is `quit`.
 fn reply_of(command: Command) -> Reply
     ensures { result ≡ reply_of command }
 {

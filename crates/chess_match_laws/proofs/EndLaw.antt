@@ -1,4 +1,4 @@
--- No move is made after a verdict, none beyond the limit, and where draws are automatic none once a draw may be
+-- A match has no move after a verdict, none beyond the limit, and where draws are automatic none once a draw may be
 -- claimed. The invariant (`Goes`), which each act keeps, says so of the moves so far, and in a turn also that the next
 -- may be made.
 use Rattle.std.proofs.Common.{◌≡◌, ◌∙◌, ℕ, ◌+◌, ◌≤◌, ◌<◌, Bool, true, false, List, [], ◌∷◌, ◌++◌, length, length-append, take, refl, sym, ap, subst, None, arith, nat_lt}

@@ -14,7 +14,7 @@ use chess_cecp::{COMMAND_LEN, Command, Go, LineServer, read_command};
 use std::marker::Model;
 use text_lines::{Line, first_word};
 
-// The reply to `protover`.
+// The reply to `protover`, whatever the version: the features that the stub has on, among them `usermove`.
 const FEATURES: &[u8] = b"feature ping=1 setboard=1 usermove=1 myname=\"stub\" done=1\n";
 
 // The line that the stub sends for the argument `offer` (`offer draw`) or `claim` (a claim of a draw), which may follow
@@ -229,7 +229,8 @@ impl<'a> Stub<'a> {
         Ok(Go::On)
     }
 
-    // Obeys the command of a line, writes the reply if there is one, and returns whether the stub goes on.
+    // Obeys the command of a line (`text`), writes the reply that it has, and returns whether the stub continues: not
+    // after `quit`, nor after a turn that plays `end`.
     #[tactic(auto, unfolding(crate::specs::Stub::stub_row))]
     fn obey<W: Output>(&mut self, text: &[u8], writer: &mut W) -> Result<Go, WriteFault>
         ensures next { self.new ≡ (stub_row self.old text.now (command_of text.now)).state }
@@ -275,8 +276,8 @@ impl<'a> Stub<'a> {
 impl<'a> LineServer for Stub<'a> {
     ghost respond = { stub_response };
 
-    // Obeys the command of a line, unless the line is too long, flushes the writer, and returns whether the stub goes
-    // on.
+    // Obeys the command of a line, unless the line is too long and so ignored, flushes the writer, and returns whether
+    // the stub continues.
     #[tactic(auto, unfolding(crate::specs::Stub::stub_response))]
     fn answer_line<W: Output>(
         &mut self,
