@@ -24,8 +24,8 @@ use chess_text::move_text;
 // before it. The answers to `showmoves` and `showpgn` may be longer, and are not put together in such a buffer.
 const ANSWER_LEN: usize = 1100;
 
-// The most bytes of the answer to `showmoves`: `# moves`, a number, and six bytes for each of 896 moves, the most that a
-// list of moves (`MoveList`) holds. Other answers have a smaller buffer, since a buffer is filled with zeros first.
+// The most bytes of the answer to `showmoves`: `# moves`, a number, and six bytes for each of 896 moves, the most that
+// a list of moves (`MoveList`) holds. Other answers have a smaller buffer, since a buffer is filled with zeros first.
 const MOVES_LEN: usize = 5500;
 
 // The text of an answer to any command but `showmoves` and `showpgn`.
