@@ -147,7 +147,7 @@ unfolding session_response
 refused_keeps seen line h =
     ap (λ v. record { tags = seen.tags; limit = seen.limit; state = v }) ((line_obeys seen line).keeps h)
 
--- the same of a session `left` that is the one after the line; and in any case the line keeps tags and limit
+-- refused_keeps, said of a session `left` that is the one after the line; and any line keeps tags and limit
 pub refused : (seen left : SessionSeen) (line : LineSeen) → left ≡ (session_response seen line).state
     → IsRefusal (session_response seen line).text → left ≡ seen
 refused seen left line is h = is ∙ refused_keeps seen line h

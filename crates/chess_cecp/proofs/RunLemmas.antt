@@ -247,7 +247,7 @@ module _ {S : Type 0} {respond : Server S} {r r' : InputState} {w w' : OutputSta
     ),
   )
 
-  -- a run that ends by an unended last line
+  -- a run that ends with the input, whose last line has no `\n` and was answered
   pub by_last : (E : Type 0) {r'' : InputState} {w'' : OutputState} {s'' : S} (held' : Held) (line : LineSeen)
       → NextLine {E = E} COMMAND_LEN r' r'' held held' (Ok (Some line)) → line.ended ≡ false
       → Sent w' w'' (respond s' line).text → s'' ≡ (respond s' line).state → (respond s' line).ends ≡ false
@@ -263,7 +263,7 @@ module _ {S : Type 0} {respond : Server S} {r r' : InputState} {w w' : OutputSta
         (refl, ((refl, refl), rw (at.lines, one_more line) (refl, next, on))),
       )
 
-  -- a run that ends where nothing is left
+  -- a run that ends with the input, of which no line is left
   pub by_end : (E : Type 0) {r'' : InputState} {held' : Held} → NextLine {E = E} COMMAND_LEN r' r'' held held' (Ok None)
       → Ran (Served respond s s' (Ok InputEnded)) (record { input = r; output = w }) (record { input = r''; output = w' })
   by_end E {r''} (more, bytes, waits, got) = (

@@ -21,7 +21,7 @@ move_accepted tags limit s m unended bare room line word is =
     let full : nat_le limit (length s.moves) ≡ false = grind (arith, nat_tests, room) in
     rw (unended, bare, full, is) refl
 
--- so it is for each move, one after another; by induction on the moves
+-- so `usermove` plays each of these moves, one after another; by induction on the moves
 accepted : (tags : Tags) (limit : ℕ) (s : State) (words : List (List ℕ)) (ms : List Move) → s.declared ≡ None
     → AreRead limit s words ms → AreAccepted tags limit s ms
 accepted tags limit s [] [] bare are = tt

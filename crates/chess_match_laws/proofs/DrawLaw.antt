@@ -64,7 +64,7 @@ line_drawn r S kind moment m aw j = line_cases r S kind moment m (λ e. Drawn r 
     by : {p : Phase} → m.phase ≡ p → ByDraw r m.played p
     by e = subst (λ (q : Phase). ByDraw r m.played q) e j
 
--- a silence keeps it
+-- a silence keeps `Drawn`
 silent_drawn : (r : Rules) (S : Colour) (moment : _) (m : Match) → awaits_line m.phase S ≡ true → Drawn r m
     → Drawn r (effect r m (Silent S moment)).after
 silent_drawn r S moment m aw j = silence_cases r S moment m (λ e. Drawn r e.after) (record {

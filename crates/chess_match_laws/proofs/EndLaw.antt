@@ -85,7 +85,7 @@ line_goes r S kind moment m aw g = line_cases r S kind moment m (λ e. Goes r e.
   passes = λ p said. (g.0, g.1, λ on. g.2 (ap in_game p));
 })
 
--- a silence keeps it
+-- a silence keeps `Goes`
 silent_goes : (r : Rules) (S : Colour) (moment : ℕ) (m : Match) → Goes r m → Goes r (effect r m (Silent S moment)).after
 silent_goes r S moment m g = silence_cases r S moment m (λ e. Goes r e.after) (record {
   stops = λ reason w. (g.0, g.1, λ on. absurd (cc));

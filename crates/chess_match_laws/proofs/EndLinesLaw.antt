@@ -112,7 +112,7 @@ module _ (r : Rules) (final : Match) (unended : (S : Colour) → ended_by_write_
       → events_of r m (Happens e ∷ mended H) ≡ events_of r m (Happens e ∷ H)
   happens m e H same = ap (λ (es : List Event). e ∷ es) same
 
-  -- each act keeps it
+  -- by each act in front of later ones `Mends` still holds, so it holds of a whole match
   mends : (H : List Act) → IsMatch r H final → Mends beginning.after (blocks_from White beginning.to) H
   mends H g = by_cases r final Mends (record {
     sends = λ m end b due H p. (p.0, (refl, p.1), p.2);

@@ -78,7 +78,7 @@ silent_few r k S moment m w = silence_cases r S moment m (λ e. Few r k e.after)
   goes_on = λ since. w;
 })
 
--- the moment at the end of an opening keeps it
+-- the moment that the clock shows at the end of an opening keeps the bound (`FewIn`)
 opened : (r : Rules) (k : ℕ) (S : Colour) (moment : ℕ) (m : Match) → FewIn r k (Opening S) m
     → FewIn r k (BeforeMove S moment) m
 opened r k S moment m h1 = grind arith

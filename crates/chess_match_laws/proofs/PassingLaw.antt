@@ -174,7 +174,7 @@ offered White Black m X on own so_far =
 -- ---- any line
 
 module _ (r : Rules) (S : Colour) where
-  -- any line keeps it
+  -- any line keeps the invariant (`SentTo`)
   line : (C : Colour) (kind : LineKind) (moment : ℕ) (m : Match) (X : List (List ℕ)) → awaits_line m.phase C ≡ true
       → Kept r m → SentTo S m X
       → SentTo S (line_row r m.phase kind moment m).after

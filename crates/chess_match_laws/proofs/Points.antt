@@ -113,7 +113,7 @@ kept_line r S kind moment m aw k = line_cases r S kind moment m (λ e. Kept r e.
     said : (C : Colour) → length ((said_by S kind m).seat C).used ≡ turns_of C r.start.side m.played
     said C = ap length (said_used S C kind m) ∙ k.1 C
 
--- a silence keeps it
+-- a silence keeps `Kept`
 kept_silent : (r : Rules) (S : Colour) (moment : ℕ) (m : Match) → Kept r m → Kept r (effect r m (Silent S moment)).after
 kept_silent r S moment m k = silence_cases r S moment m (λ e. Kept r e.after) (record {
   stops = λ reason w. (tt, k.1);

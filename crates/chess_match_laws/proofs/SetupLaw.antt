@@ -86,7 +86,7 @@ set_up_next r White X = record { last = λ c e own. absurd (not_his c e own) }
     not_his Black e own = absurd (cc)
 
 module _ (r : Rules) (S : Colour) where
-  -- any line keeps it
+  -- any line keeps the invariant (`Told`)
   line : (C : Colour) (kind : LineKind) (moment : ℕ) (m : Match) (X : List SentLine) → awaits_line m.phase C ≡ true
       → Kept r m → Told r S m X
       → Told r S (line_row r m.phase kind moment m).after
