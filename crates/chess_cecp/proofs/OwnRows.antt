@@ -1,5 +1,6 @@
--- The rows of `showmoves` and `showpgn`, whose answers are not put together with those of the other commands. Both only
--- answer a text and keep the game, so the code may write the text after it has obeyed the line.
+-- How the code answers by the rows of the table. `showmoves` and `showpgn`, whose answers are not put together with the
+-- others, only answer a text and keep the game, and the session continues; so the code may write the text after it has
+-- obeyed the line (by_moves, by_pgn). After any other answer the session ends just if the row says so (text_go).
 use Rattle.std.proofs.Common.{◌≡◌, List, ℕ, true, false, not, if◌then◌else◌, codes, refl, sym, ap, ◌∙◌, arith}
 use Rattle.std.proofs.lemmas.Bool.{and_parts, not-true}
 use Rattle.chess_base.specs.MoveList.{moves}

@@ -1,6 +1,7 @@
--- A server's response to several lines, taken apart: if the server ends with none of the first lines, the response to
+-- A server's response to several lines, taken apart. If the server ends with none of the first lines, the response to
 -- all is the text for the first ones, and then the response to the others from the state that the first ones left
--- (responses_on).
+-- (responses_on, by induction on the first ones); and the response to a single line is what the server does with it
+-- (alone).
 use Rattle.std.proofs.Common.{◌≡◌, ℕ, Bool, true, false, List, [], ◌∷◌, ◌++◌, refl, sym, ap, ◌∙◌, append_assoc, append-nil, if◌then◌else◌, arith}
 use Rattle.text_lines.specs.Lines.{LineSeen}
 use Rattle.chess_cecp.specs.Serving.{Response, Server, and_then, responses}

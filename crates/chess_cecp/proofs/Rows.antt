@@ -1,5 +1,6 @@
--- Two facts of each row of the table of commands (`row`), shown command by command: the session ends just if the
--- command is `quit` (line_ends), and an answer that is a refusal changes nothing (refused_keeps).
+-- Two facts of each row of the table of commands (`row`), shown command by command (`row_obeys`): the session ends just
+-- if the command is `quit` (line_ends), and an answer that is a refusal changes nothing (refused_keeps, refused).
+-- Besides, no line changes a session's tags and limit (tags_and_limit_stay).
 use Rattle.std.proofs.Common.{◌≡◌, ℕ, ◌==◌, ◌&&◌, ◌||◌, inl, inr, Bool, true, false, List, [], ◌∷◌, ◌++◌, get_or, codes, refl, sym, ap, ◌∙◌, if◌then◌else◌, length, Option, None, Some, bytes_eq, nat_le, nat_lt, not, Result, Ok, Err}
 use Rattle.std.specs.Option.{option_map_or}
 use Rattle.chess_base.specs.{declared.fen_fault.FenFault.FenFault, declared.man.Variant.TheVariants.Fischerandom, declared.setup.Setup.Setup, Initial.initial_setup, Initial.initial_setup_of}
@@ -146,7 +147,7 @@ unfolding session_response
 refused_keeps seen line h =
     ap (λ v. record { tags = seen.tags; limit = seen.limit; state = v }) ((line_obeys seen line).keeps h)
 
--- the same of a session `left` that is the one after the line; and in any case the line keeps tags and limit
+-- refused_keeps, said of a session `left` that is the one after the line; and any line keeps tags and limit
 pub refused : (seen left : SessionSeen) (line : LineSeen) → left ≡ (session_response seen line).state
     → IsRefusal (session_response seen line).text → left ≡ seen
 refused seen left line is h = is ∙ refused_keeps seen line h

@@ -1,6 +1,7 @@
--- What serve_lines does, as the claim `Served` says it. The loop's invariant is SoFar: all lines reached were answered,
--- and the server ended with none of them. It holds at the start (start), an answer more keeps it (go_on), and each way
--- out of the loop gives `Served`: by_line, by_write, by_last, by_end, by_read.
+-- What serve_lines does, as the claim `Served` says it. The loop's invariant (SoFar): all lines reached were answered,
+-- and the server ended with none of them. It holds at the start (start), and an answer more keeps it (go_on). Each way
+-- out gives `Served`: a line that ends the server (by_line), a failed write (by_write), a last line without `\n`
+-- (by_last), the input's end (by_end), a failed read (by_read).
 use Rattle.std.proofs.Common.{◌≡◌, ℕ, ◌+◌, ◌-◌, ◌≤◌, inl, inr, Bool, true, false, List, [], ◌∷◌, ◌++◌, length, Some, None, Ok, Err, refl, sym, ap, ◌∙◌, arith, append_assoc, append-nil, length-append, if◌then◌else◌, subst, slice_get, MatchBool}
 use Rattle.std.proofs.{Math.Seq.take-append-add, Math.Seq.take-append_seam, lemmas.Grind.common_steps}
 use Rattle.std.specs.Io.KnownBytes.{Consumes, IsAtEnd}
@@ -246,7 +247,7 @@ module _ {S : Type 0} {respond : Server S} {r r' : InputState} {w w' : OutputSta
     ),
   )
 
-  -- a run that ends by an unended last line
+  -- a run that ends with the input, whose last line has no `\n` and was answered
   pub by_last : (E : Type 0) {r'' : InputState} {w'' : OutputState} {s'' : S} (held' : Held) (line : LineSeen)
       → NextLine {E = E} COMMAND_LEN r' r'' held held' (Ok (Some line)) → line.ended ≡ false
       → Sent w' w'' (respond s' line).text → s'' ≡ (respond s' line).state → (respond s' line).ends ≡ false
@@ -262,7 +263,7 @@ module _ {S : Type 0} {respond : Server S} {r r' : InputState} {w w' : OutputSta
         (refl, ((refl, refl), rw (at.lines, one_more line) (refl, next, on))),
       )
 
-  -- a run that ends where nothing is left
+  -- a run that ends with the input, of which no line is left
   pub by_end : (E : Type 0) {r'' : InputState} {held' : Held} → NextLine {E = E} COMMAND_LEN r' r'' held held' (Ok None)
       → Ran (Served respond s s' (Ok InputEnded)) (record { input = r; output = w }) (record { input = r''; output = w' })
   by_end E {r''} (more, bytes, waits, got) = (

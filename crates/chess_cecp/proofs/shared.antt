@@ -1,3 +1,4 @@
--- Lemmas for crates above: all are about definitions, none about functions. They can cite no other module of proofs/.
+-- Lemmas for crates above, about definitions and never about functions: on lines and their servers (Lines), and on
+-- refusals of a session (Refusals). Both only pass on lemmas of other files of proofs/.
 pub mod Lines
 pub mod Refusals

@@ -21,11 +21,11 @@ use chess_moves::Board;
 use chess_text::move_text;
 
 // The most bytes of an answer, which is put together before it is written: an echoed line of 1,024 bytes and the words
-// before it. Those to `showmoves` and `showpgn` may be longer, and are not put together here.
+// before it. The answers to `showmoves` and `showpgn` may be longer, and are not put together in such a buffer.
 const ANSWER_LEN: usize = 1100;
 
-// The most bytes of the answer to `showmoves`: `# moves`, a number, and six bytes for each of 896 moves. Other answers
-// have a smaller buffer, since a buffer is filled with zeros first.
+// The most bytes of the answer to `showmoves`: `# moves`, a number, and six bytes for each of 896 moves, the most that
+// a list of moves (`MoveList`) holds. Other answers have a smaller buffer, since a buffer is filled with zeros first.
 const MOVES_LEN: usize = 5500;
 
 // The text of an answer to any command but `showmoves` and `showpgn`.
@@ -34,7 +34,7 @@ pub(crate) type Answer = ArrayVec<u8, ANSWER_LEN>;
 // The text of the answer to `showmoves`.
 pub(crate) type MovesAnswer = ArrayVec<u8, MOVES_LEN>;
 
-// Appends a line of two texts to the answer: `pong ` and `7` give `pong 7\n`.
+// Appends a line of two texts, a front and a text after it, to the answer: `pong ` and `7` give `pong 7\n`.
 pub(crate) fn write_line(answer: &mut Answer, front: &[u8], text: &[u8])
     requires { array_vec_len answer.old + length front.now + length text.now + 1 ≤ ANSWER_LEN }
     ensures { answer.new.items ≡ answer.old.items ++ joined_line front.now text.now }
@@ -54,12 +54,12 @@ pub(crate) fn write_pong(answer: &mut Answer, number: u32)
     answer.push(b'\n');
 }
 
-// The line of the features that an arbiter has: it takes `setboard`, answers `ping`, and knows normal chess and
-// Chess960.
+// The line of the features that an arbiter has, the answer to `protover 2` and each later version: it takes `setboard`,
+// answers `ping`, and knows normal chess and Chess960.
 const FEATURES: &[u8] =
     b"feature ping=1 setboard=1 playother=0 san=0 usermove=1 time=1 draw=1 sigint=0 sigterm=0 reuse=1 analyze=0 colors=0 debug=1 myname=\"CECP arbiter\" variants=\"normal,fischerandom\" done=1\n";
 
-// Puts the answer to `protover 2` together: the line of the features.
+// Puts the answer to `protover 2`, or to a later version, together: the line of the features.
 #[tactic(auto, unfolding(crate::specs::Session::features_line))]
 pub(crate) fn write_features(answer: &mut Answer)
     requires { answer.old.items ≡ [] }

@@ -16,9 +16,9 @@ use text_lines::{read_number, split_word};
 pub enum Command {
     /// `new`
     New,
-    /// `usermove M`
+    /// `usermove M` (`usermove` without a move is `Unknown`)
     UserMove,
-    /// A line that is a move, without `usermove`.
+    /// A line that has the form of a move, such as `Nf3`, without `usermove`.
     BareMove,
     /// `undo`
     Undo,
@@ -48,7 +48,7 @@ pub enum Command {
     ShowPgn,
     /// `quit`
     Quit,
-    /// A command without an answer, such as `xboard` or `force`, and an empty line.
+    /// A command that is accepted and ignored, such as `xboard` or `force`, and an empty line.
     Silent,
     /// `ping` or `protover` without a number of one to nine digits.
     BadNumber,
@@ -76,7 +76,7 @@ fn protover(argument: &[u8]) -> Command
     }
 }
 
-// Whether a word is an ignored command of the handshake, or of how an engine is to play (`?`: it is to move at once).
+// Whether a word is an ignored command of the handshake, or of how an engine is to play (`?` means: move at once).
 #[tactic(auto, unfolding(crate::specs::ties::Ignored::is_engine_command))]
 fn is_engine_command(word: &[u8]) -> bool
     ensures { result ≡ is_engine_command word.now }
@@ -119,8 +119,8 @@ fn is_ignored(word: &[u8]) -> bool
     is_engine_command(word) || is_opponent_or_clock_command(word)
 }
 
-// The command that a line's first word names, by its argument: `Silent` for one that is ignored and for an empty line;
-// `None` if the word is no command's name, as in a bare `e2e4`.
+// The command that a line's first word names, by its argument: `Silent` for one that is ignored and for an empty line,
+// `Unknown` for `usermove` without an argument; `None` if the word is no command's name, as in a bare `e2e4`.
 #[tactic(auto, unfolding(crate::specs::Commands::named_command))]
 pub(crate) fn named_command(word: &[u8], argument: &[u8]) -> Option<Command>
     ensures { result ≡ named_command word.now argument.now }

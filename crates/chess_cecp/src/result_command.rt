@@ -8,8 +8,8 @@ use chess_game::{Comment, Declared};
 use pgn_writer::outcome_of;
 use text_lines::{argument, first_word};
 
-// The comment after the outcome of `result`: of `{White resigns}` the text within the braces, of an empty text the
-// empty comment; `None` for any other text.
+// The comment after the outcome of `result`: of a text in braces, such as `{White resigns}`, what is within them, of an
+// empty text the empty comment; `None` for any other text.
 #[tactic(auto, unfolding(crate::specs::Declaring::result_comment))]
 fn result_comment(text: &[u8]) -> Option<&[u8]>
     ensures { option_map (λ c. c.now) result ≡ result_comment text.now }

@@ -75,7 +75,7 @@ impl<B: Board> LineServer for Session<B> {
     ghost respond = { session_response };
 
     // Answers a line of a session: changes the game, writes the answer, and flushes the writer. Returns whether the
-    // session goes on.
+    // session continues.
     fn answer_line<W: Output>(
         &mut self,
         line: &Line<COMMAND_LEN>,
@@ -85,8 +85,9 @@ impl<B: Board> LineServer for Session<B> {
     }
 }
 
-/// Answers the lines of a stream one after another, up to the first line that ends the server, or to the input's end.
-/// The next line is read only after the answer to the previous one was written and flushed.
+/// Answers the lines of a stream one after another, up to the first line that ends the server, or to the input's end; a
+/// last line that no `\n` ends is answered, too. The next line is read only after the answer to the previous one was
+/// written and flushed.
 ///
 /// # Errors
 /// If a call of the reader or of the writer fails. After a failed read all whole lines were answered; after a failed

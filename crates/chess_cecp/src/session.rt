@@ -47,13 +47,13 @@ pub enum Go {
     Quit,
 }
 
-// How a line is answered.
+// How a line is answered once it has been obeyed.
 enum Reply {
-    // The text in the buffer, and whether the session goes on after it.
+    // By the text that was put together, and whether the session continues after it.
     Text(Go),
-    // The legal moves.
+    // By the legal moves (`showmoves`).
     Moves,
-    // The game's text.
+    // By the game's PGN (`showpgn`).
     Pgn,
 }
 
@@ -132,8 +132,8 @@ impl<B: Board> Session<B> {
         }
     }
 
-    // Plays the move that `text` was read as (`read`), and answers with the board's verdict, if there is one; or
-    // refuses the text.
+    // Plays the move that `text` denotes (`read` is what `text` was read as), and answers with the board's verdict, if
+    // there is one; or refuses the text, if it denotes no legal move or no move can be played now.
     fn play(&mut self, read: Reading, text: &[u8], answer: &mut Answer)
         requires read { read ≡ reading (current self.old.state) text.now }
         requires legal { IsLegalReading (current self.old.state) read }
@@ -193,8 +193,8 @@ impl<B: Board> Session<B> {
         }
     }
 
-    // Obeys `variant` by its argument: `fischerandom` starts the game anew in Chess960, `normal` goes over to normal
-    // chess, any other name is refused. `text` is the whole line.
+    // Obeys `variant` by its argument: `fischerandom` starts the game anew in Chess960, `normal` in normal chess unless
+    // it is of normal chess already, and any other name is refused. `text` is the whole line.
     fn change_variant(&mut self, text: &[u8], argument: &[u8], answer: &mut Answer)
         requires short { length text.now ≤ COMMAND_LEN }
         requires empty { answer.old.items ≡ [] }
@@ -213,7 +213,8 @@ impl<B: Board> Session<B> {
         write_line(answer, b"Error (unsupported variant): ", text);
     }
 
-    // Obeys `variant normal`: a game of Chess960 starts anew as one of normal chess, and one of normal chess goes on.
+    // Obeys `variant normal`: a game of Chess960 starts anew as one of normal chess, and one of normal chess stays as
+    // it is.
     fn leave_chess960(&mut self)
         ensures { self.new ≡ after_row self.old (becomes
             (if is_fischerandom self.old.state.start.variant then from_start initial_setup else self.old.state)) }
@@ -303,7 +304,7 @@ impl<B: Board> Session<B> {
         }
     }
 
-    // Answers `showfen`: `# fen ` and the FEN of the current position, to `answer`.
+    // Puts the answer to `showfen` together: the line of `# fen ` and the FEN of the current position.
     fn show_fen(&self, answer: &mut Answer)
         requires { answer.old.items ≡ [] }
         ensures { answer.new.items ≡ joined_line (codes "# fen ") (fen (current self.now.state)) }
@@ -312,8 +313,8 @@ impl<B: Board> Session<B> {
         write_line(answer, b"# fen ", fen.as_slice());
     }
 
-    // Obeys a command: changes the game, and puts the answer together; but for `showmoves` and `showpgn`, whose answers
-    // are written later. `text` is the whole line, `argument` what follows its first word.
+    // Obeys a command: changes the game, and puts the answer together, except for those to `showmoves` and `showpgn`,
+    // which are written later. `text` is the whole line, `argument` what follows its first word.
     fn obey(&mut self, command: Command, text: &[u8], argument: &[u8], answer: &mut Answer)
         requires short { length text.now ≤ COMMAND_LEN }
         requires short_argument { length argument.now ≤ COMMAND_LEN }
@@ -371,8 +372,8 @@ impl<B: Board> Session<B> {
         }
     }
 
-    // Obeys a line: changes the game, puts the answer together, but for `showmoves` and `showpgn`, and returns how the
-    // line is then answered.
+    // Obeys a line: changes the game, puts the answer together, except for those to `showmoves` and `showpgn`, and
+    // returns how the line is then answered: by that text, by the legal moves or by the game's PGN.
     #[tactic(auto, unfolding(crate::specs::Session::session_response, crate::specs::ties::Replies::is_quit, crate::specs::ties::Replies::asks_for_moves, crate::specs::ties::Replies::asks_for_pgn, crate::specs::Commands::command_of))]
     fn obey_line(&mut self, line: &Line<COMMAND_LEN>, answer: &mut Answer) -> Reply
         requires { answer.old.items ≡ [] }
@@ -434,7 +435,7 @@ impl<B: Board> Session<B> {
         ensures go { IfOk result
             (λ go. go ≡ (if (session_response self.old line.now).ends then Go.Quit else Go.On)) }
 
-        // Two facts that follow from the table: a refusal changes nothing, and tags and limit never change.
+        // Two facts that follow from the table of commands: a refusal changes nothing, and tags and limit never change.
         ensures refused { IsRefusal (session_response self.old line.now).text → self.new ≡ self.old }
         ensures kept { (self.new.tags ≡ self.old.tags) × (self.new.limit ≡ self.old.limit) }
     {
@@ -457,7 +458,7 @@ impl<B: Board> Session<B> {
 }
 
 // How a command is answered: `showmoves` by the legal moves, `showpgn` by the game's PGN, all others by the text put
-// together; and whether the session goes on, which it does unless the command is `quit`.
+// together; and whether the session continues, which it does unless the command is `quit`.
 fn reply_of(command: Command) -> Reply
     ensures { result ≡ reply_of command }
 {

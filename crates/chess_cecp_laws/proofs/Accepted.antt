@@ -1,6 +1,6 @@
--- The moves of a game that was read from a PGN are accepted by a session: reading a move requires that the game has no
--- verdict and fewer half-moves than the limit, and that the text denotes a legal move (PlayedWords), and the row of
--- `usermove` requires no more.
+-- The moves of a game that was read from a PGN are accepted by a session, one after another (read_games; by induction
+-- on the moves): reading a move requires that the game has no verdict and fewer half-moves than the limit, and that the
+-- text denotes a legal move (PlayedWords), and the row of `usermove` requires no more.
 use Rattle.std.proofs.Common.{◌≡◌, ℕ, true, false, List, [], ◌∷◌, length, None, refl, arith, nat_lt, nat_le}
 use Rattle.std.proofs.lemmas.Bool.Decides.{nat_tests}
 use Rattle.chess_base.specs.declared.man.Move.{Move}
@@ -21,7 +21,7 @@ move_accepted tags limit s m unended bare room line word is =
     let full : nat_le limit (length s.moves) ≡ false = grind (arith, nat_tests, room) in
     rw (unended, bare, full, is) refl
 
--- so it is for each move, one after another; by induction on the moves
+-- so `usermove` plays each of these moves, one after another; by induction on the moves
 accepted : (tags : Tags) (limit : ℕ) (s : State) (words : List (List ℕ)) (ms : List Move) → s.declared ≡ None
     → AreRead limit s words ms → AreAccepted tags limit s ms
 accepted tags limit s [] [] bare are = tt

@@ -1,6 +1,7 @@
 -- The examples of specs/GameLines: what a session answers to lines such as `usermove e4`, `undo` or `claim`, depending
--- on its game, and what the game is then. First come the rows of the session's table that these lines need; then each
--- line is answered as its row says.
+-- on its game, and what the game is then (game_lines_are_answered): first the rows of the session's table that these
+-- lines need, then each line. By computation: how claims are shown (claims_are_shown), results read (results_are_read),
+-- and faults of a FEN named (faults_are_named).
 use Prim.Native.String.{String as Text}
 use Rattle.std.proofs.Common.{◌≡◌, ◌∙◌, ◌-◌, ◌<◌, ◌≤◌, ℕ, Bool, true, false, List, [], ◌∷◌, ◌++◌, length, Option, None, Some, refl, ap, arith, codes, if◌then◌else◌, nat_le, take, Err}
 use Rattle.std.specs.Option.{option_map_or}

@@ -1,6 +1,7 @@
--- The law reads_change_no_answer: if the bytes that the input will give are known, the lines read are the first of
--- their lines (are_first), and a run that ends without a fault answered these lines, as if all bytes had come at once
--- (answers_input).
+-- The law reads_change_no_answer. If the bytes that the input will give are known, they begin with those that were
+-- read, so the lines read are the first of their lines (are_first). A run that ends without a fault answered these
+-- lines (answers_input): either a line ended the server, which answers none after it, or the input ended, and all were
+-- read.
 use Rattle.std.proofs.Common.{◌≡◌, ℕ, Bool, true, false, List, [], ◌∷◌, ◌++◌, Option, Some, None, Ok, refl, sym, ap, ◌∙◌, append-nil, subst, IfSome}
 use Rattle.std.proofs.KnownBytes.{Consumes-whole}
 use Rattle.std.specs.Io.KnownBytes.{Consumes}

@@ -1,6 +1,6 @@
 -- In a game of normal chess each row of the table of commands, but for `variant` and `protover`, is that of the table
--- for normal chess only (normal_rows). A lemma for each row says so, by the lemmas of NormalGames on what the row shows
--- or requires of the game.
+-- for normal chess only (normal_rows, a case for each command). Lemmas for the rows that depend on the game say so, by
+-- those of NormalGames on what the row shows or requires of it.
 use Rattle.std.proofs.Common.{◌≡◌, ℕ, true, List, [], ◌∷◌, codes, Option, None, Some, Result, Ok, Err, refl, ap, ◌∙◌, IfOk, flat_map}
 use Rattle.chess_base.specs.{declared.fen_fault.FenFault.FenFault, declared.man.Move.Move, declared.man.Variant.TheVariants.Normal, declared.setup.Setup.Setup, Coordinates.coordinate, MoveList.moves}
 use Rattle.chess_fen.specs.{Reading.fen_reading_as, Writing.fen}

@@ -1,5 +1,6 @@
--- What a session shows of a game that has just begun and of one of a single half-move, also with a result, and how it
--- answers the FEN of a stalemate, by computation.
+-- Texts for GameLines, each by computation (`refl`): the FEN, the moves and the state of a game that has just begun
+-- (fen_shown, moves_shown, state_shown); of 1 e4 the state after Black resigned (result_shown), and the PGN
+-- (pgn_shown); and the answer to `setboard` with the FEN of a stalemate (stalemate_set).
 use Rattle.std.proofs.Common.{◌≡◌, Some, refl, codes}
 use Rattle.std.specs.Fmt.{digits}
 use Rattle.chess_base.specs.Attacks.{is_clear, could_capture, attacks, is_attacked, is_in_check}

@@ -11,13 +11,15 @@ use Rattle.chess_cecp.specs.declared.session.TheConstants.{COMMAND_LEN}
 abbrev pub lines_of : List ℕ → List LineSeen
 lines_of bytes = stream_lines COMMAND_LEN true bytes
 
--- if all bytes of the input are known, the lines that were read are the first lines of these bytes
+-- if all bytes that the input of the devices `d` will give are known, the lines that were read (of `i`, what it gave)
+-- are the first lines of these bytes
 abbrev pub AreFirstLines : Devices → FromInput → Type 0
 AreFirstLines d i = IfSome d.input.known_bytes (λ bytes. (more : List LineSeen)
     × (lines_of bytes ≡ lines_read i ++ more))
 
--- if all bytes of the input are known, the server `respond` answered the lines of these bytes, up to one with which it
--- ends; the answers were written and flushed. `s` and `s'` are its states before and after
+-- if all bytes that the input will give are known, the server `respond` answered the lines of these bytes, up to one
+-- with which it ends; the answers were written and flushed. `s` and `d` are its state and the devices before, `s'` and
+-- `d'` after
 abbrev pub AnswersInput : {S : Type 0} → Server S → S → S → Devices → Devices → Type 0
 AnswersInput respond s s' d d' = IfSome d.input.known_bytes (λ bytes.
     let due = responses respond s (lines_of bytes) in

@@ -1,4 +1,5 @@
--- A game of normal chess only: each definition is that of the same name without `normal_`, but none takes a variant.
+-- A game of normal chess only: each definition restates one of chess_base or chess_game, but none takes a variant.
+-- Names may differ: `normal_verdict` restates `verdict`, but `normal_rep` restates `repetition_count`.
 use Rattle.std.specs.Prelude.{ℕ, ◌==◌, nat_le, Bool, ◌&&◌, ◌||◌, if◌then◌else◌, List, [], ◌∷◌, length, count_by, Option, None, Some, is_some}
 use Rattle.std.specs.List.{list_any}
 use Rattle.std.specs.Option.{option_map, option_map_or, option_or}

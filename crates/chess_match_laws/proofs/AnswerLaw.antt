@@ -1,5 +1,7 @@
--- Each item of a `feature` line is answered by its name, in order. The invariant (`SentTo`), which each event keeps
--- (`tells`): the names that were answered are those of the items known of the side.
+-- Whenever a line of a side is read, each item of its `feature` lines so far was answered by its name, in order
+-- (items_are_answered). The invariant (`SentTo`), which each event keeps (`tells`), says that the names answered are
+-- those of the items known of the side; and these are the items said (SentByLinesLaw). Which of some names are accepted
+-- and which rejected is computed (names_are_known).
 use Rattle.std.proofs.Common.{◌≡◌, ◌∙◌, ℕ, ◌-◌, Bool, true, false, List, [], ◌∷◌, ◌++◌, map, refl, sym, ap, subst, append-nil, arith, flat_map, codes, if◌then◌else◌}
 use Rattle.std.proofs.{lemmas.Grind.flat_map-append, lemmas.List.map-append}
 use Rattle.chess_base.specs.{declared.man.Colour.Colour, declared.man.Colour.TheVariants.White, declared.man.Colour.TheVariants.Black, Men.other, Men.same_colour, Options.list_if}

@@ -1,5 +1,6 @@
--- After a block that could not be sent, nothing is sent to its side (MatchCases.all_sends_end of chess_match), so at
--- most one block for each side fails; and a match that ended by a failed write has one.
+-- After a block that could not be sent to a side there is no block for it, sent or not (failed_blocks_are_last; by
+-- MatchCases.all_sends_end of chess_match), so at most one block for each side fails (one_block_fails). And if a failed
+-- write to a side ended a match, a block for it failed (write_faults_are_of_blocks; by MoveLaw.written).
 use Rattle.std.proofs.Common.{◌≡◌, ◌≤◌, Bool, true, false, List, [], ◌∷◌, ◌++◌, length, refl, ap, arith, if◌then◌else◌}
 use Rattle.chess_base.specs.{declared.man.Colour.Colour, Men.same_colour, Options.list_if}
 use Rattle.chess_base.proofs.shared.Men.{same_colour-self}

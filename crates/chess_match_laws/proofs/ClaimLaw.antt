@@ -1,5 +1,6 @@
--- A draw that may be claimed ends the match when it is claimed: in a turn the rules answer `1/2-1/2` by asking whether
--- a draw may be claimed (`claimed`). They do so before a move, if the line is in time (`timely`), and after a move.
+-- A draw that may be claimed ends the match when it is claimed by `1/2-1/2`: in a turn the rules answer this line by
+-- asking whether a draw may be claimed (`claimed`). They do so before a move, if the line is in time (`timely`), and
+-- after a move.
 use Rattle.std.proofs.Common.{◌≡◌, ℕ, ◌-◌, ◌≤◌, Bool, true, false, sym, ap, subst, Option, Some, if◌then◌else◌, nat_lt}
 use Rattle.std.specs.Option.{option_map_or}
 use Rattle.chess_base.specs.declared.man.Colour.{Colour}

@@ -1,5 +1,6 @@
--- No clock underflows: the moves of a side take no more time than it was given (`AreInTime`). Each act keeps this,
--- since a move is played only in time, and more moves give no less time.
+-- No clock underflows: what a side has left and what its moves took add up to what it was given, since they took no
+-- more than that (`AreInTime`). Each act keeps this: a move is played only in time, and after more moves no less time
+-- is given.
 use Rattle.std.proofs.Common.{◌≡◌, ℕ, ◌+◌, ◌-◌, ◌≤◌, Bool, true, false, List, [], ◌∷◌, ◌++◌, length, length-append, refl, subst, arith, ap, ◌∙◌, zero-add, if◌then◌else◌, sum}
 use Rattle.chess_base.specs.{declared.man.Colour.Colour, declared.man.Move.Move, Men.same_colour}
 use Rattle.chess_base.proofs.shared.Men.{same_colour-true}
@@ -30,7 +31,7 @@ used_more level xs x w timely =
     let grows : allotted level (length xs) ≤ allotted level (length xs + 1) = allotted_grows level (length xs) in
     rw (sum-snoc xs x, length-append xs (x ∷ [])) (omega (arith, grows, w, timely))
 
--- a move of S in time keeps it for each side C
+-- a move of S in time keeps `AreInTime`, said of each side C
 played : (r : Rules) (S C : Colour) (move : Move) (used : ℕ) (m : Match) → used ≤ clock r m S → AreInTime r m
     → InTime (r.level C) ((moved S move used m).seat C).used
 played r S C move used m timely w = rw (moved_used S C move used m) (at (same_colour S C) (same_colour-true S C))
@@ -41,7 +42,7 @@ played r S C move used m timely w = rw (moved_used S C move used m) (at (same_co
         used_more (r.level C) (m.seat C).used used (w C) (subst (λ (x : Colour). used ≤ clock r m x) same timely)
     at false e = w C
 
--- any line keeps it
+-- any line keeps `AreInTime`
 line_in_time : (r : Rules) (S : Colour) (kind : LineKind) (moment : ℕ) (m : Match) → awaits_line m.phase S ≡ true
     → AreInTime r m → AreInTime r (line_row r m.phase kind moment m).after
 line_in_time r S kind moment m aw w = line_cases r S kind moment m (λ e. AreInTime r e.after) aw (λ since. record {
@@ -66,7 +67,7 @@ line_in_time r S kind moment m aw w = line_cases r S kind moment m (λ e. AreInT
     said : (C : Colour) → InTime (r.level C) ((said_by S kind m).seat C).used
     said C = rw (said_used S C kind m) (w C)
 
--- a silence keeps it
+-- a silence keeps `AreInTime`
 silent_in_time : (r : Rules) (S : Colour) (moment : ℕ) (m : Match) → AreInTime r m
     → AreInTime r (effect r m (Silent S moment)).after
 silent_in_time r S moment m w = silence_cases r S moment m (λ e. AreInTime r e.after) (record {

@@ -1,5 +1,6 @@
--- Where draws are automatic, a match after whose moves a draw may be claimed ended for it. The invariant (`Drawn`),
--- which each act keeps: before the first turn there is no move, and later, while the match is on, no such draw.
+-- Where draws are automatic: if a draw may be claimed after the moves of a match, and the board has no verdict, the
+-- match ended for this draw, or by a fault before its first move. The invariant (`Drawn`), which each act keeps: before
+-- the first turn there is no move, and later, while the match is on, no such draw.
 use Rattle.std.proofs.Common.{◌≡◌, ◌⊎◌, true, false, List, [], refl, ap, sym, ◌∙◌, subst, inl, inr, None, Some}
 use Rattle.chess_base.specs.{declared.man.Colour.Colour, declared.man.Colour.TheVariants.White, declared.man.Move.Move}
 use Rattle.chess_game.specs.{declared.verdicts.DrawClaim.DrawClaim, declared.verdicts.Verdict.Verdict, Ends.claims, Ends.draw_claim, Ends.verdict}
@@ -63,7 +64,7 @@ line_drawn r S kind moment m aw j = line_cases r S kind moment m (λ e. Drawn r 
     by : {p : Phase} → m.phase ≡ p → ByDraw r m.played p
     by e = subst (λ (q : Phase). ByDraw r m.played q) e j
 
--- a silence keeps it
+-- a silence keeps `Drawn`
 silent_drawn : (r : Rules) (S : Colour) (moment : _) (m : Match) → awaits_line m.phase S ≡ true → Drawn r m
     → Drawn r (effect r m (Silent S moment)).after
 silent_drawn r S moment m aw j = silence_cases r S moment m (λ e. Drawn r e.after) (record {

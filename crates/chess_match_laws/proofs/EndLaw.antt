@@ -1,4 +1,4 @@
--- No move is made after a verdict, none beyond the limit, and where draws are automatic none once a draw may be
+-- A match has no move after a verdict, none beyond the limit, and where draws are automatic none once a draw may be
 -- claimed. The invariant (`Goes`), which each act keeps, says so of the moves so far, and in a turn also that the next
 -- may be made.
 use Rattle.std.proofs.Common.{◌≡◌, ◌∙◌, ℕ, ◌+◌, ◌≤◌, ◌<◌, Bool, true, false, List, [], ◌∷◌, ◌++◌, length, length-append, take, refl, sym, ap, subst, None, arith, nat_lt}
@@ -85,7 +85,7 @@ line_goes r S kind moment m aw g = line_cases r S kind moment m (λ e. Goes r e.
   passes = λ p said. (g.0, g.1, λ on. g.2 (ap in_game p));
 })
 
--- a silence keeps it
+-- a silence keeps `Goes`
 silent_goes : (r : Rules) (S : Colour) (moment : ℕ) (m : Match) → Goes r m → Goes r (effect r m (Silent S moment)).after
 silent_goes r S moment m g = silence_cases r S moment m (λ e. Goes r e.after) (record {
   stops = λ reason w. (g.0, g.1, λ on. absurd (cc));

@@ -1,5 +1,6 @@
--- Two matches that read the same from engines and clock have the same events, whichever end lines could be sent. With
--- each failed block sent after all (`mended`) both are matches of the same engines, so OneLaw.only_one_match applies.
+-- Two matches by the same rules that read the same from engines and clock, and that no failed write ended, have the
+-- same events and the same final state, whichever end lines could be sent. With each failed block sent after all
+-- (`mended`) both are matches of the same engines, with the same events (`mends`), so OneLaw.only_one_match applies.
 use Rattle.std.proofs.Common.{◌≡◌, ℕ, Bool, true, false, ◌||◌, List, [], ◌∷◌, ◌++◌, refl, ap, sym, ◌∙◌, ◌<◌, subst, None, Some, Option, length, if◌then◌else◌, nat_lt, slice_get}
 use Rattle.chess_base.specs.{declared.man.Colour.Colour, declared.man.Colour.TheVariants.White}
 use Rattle.std.proofs.lemmas.Bool.{and_from}
@@ -111,7 +112,7 @@ module _ (r : Rules) (final : Match) (unended : (S : Colour) → ended_by_write_
       → events_of r m (Happens e ∷ mended H) ≡ events_of r m (Happens e ∷ H)
   happens m e H same = ap (λ (es : List Event). e ∷ es) same
 
-  -- each act keeps it
+  -- by each act in front of later ones `Mends` still holds, so it holds of a whole match
   mends : (H : List Act) → IsMatch r H final → Mends beginning.after (blocks_from White beginning.to) H
   mends H g = by_cases r final Mends (record {
     sends = λ m end b due H p. (p.0, (refl, p.1), p.2);

@@ -1,5 +1,6 @@
--- Each side is sent `go` once, with the opening of its first turn. The invariant (`ToldIn`), which each event keeps
--- (`tells`), says by the phase how many `go` a side was sent.
+-- At each moment a side was sent `go` at most once (go_is_sent_once), and just once whenever the clock is read for the
+-- opening of one of its turns (was_sent_go). By the scheme of Tellings: the invariant (`ToldIn`), which each event
+-- keeps (`tells`), says by the phase and the side's moves how many `go` it was sent.
 use Rattle.std.proofs.Common.{◌≡◌, ◌∙◌, ℕ, zero, suc, ◌-◌, ◌≤◌, Bool, true, false, ◌||◌, List, [], ◌∷◌, ◌++◌, length, length-append, refl, sym, ap, subst, append-nil, arith, flat_map, codes, if◌then◌else◌, nat_lt}
 use Rattle.std.proofs.{lemmas.Grind.flat_map-append, lemmas.Bool.Decides.nat_tests}
 use Rattle.chess_base.specs.{declared.man.Colour.Colour, declared.man.Colour.TheVariants.White, declared.man.Colour.TheVariants.Black, declared.man.Move.Move, Men.other, Men.same_colour, Options.list_if}

@@ -1,5 +1,6 @@
--- Lines that say nothing are ignored, up to the 10,000th: in each phase, and for each kind of such a line, the rules
--- lead to the same effect, which only counts it.
+-- Some lines are ignored, such as thinking before a move: with fewer than 9,999 before it in its setup or turn such a
+-- line is only counted, and the 10,000th ends the match. In each phase, and for each kind of such a line, the rules
+-- lead to the effect of ignoring it, of which both are shown (`ignored`).
 use Rattle.std.proofs.Common.{◌≡◌, ℕ, ◌+◌, ◌-◌, ◌≤◌, Bool, true, false, List, [], length, refl, sym, ap, subst, arith, Option, Some, leb-false, leb-true, if◌then◌else◌, nat_le, nat_lt, ◌==◌}
 use Rattle.std.proofs.lemmas.Bool.Decides.{nat_tests}
 use Rattle.chess_base.specs.{declared.man.Colour.Colour, Men.other}

@@ -1,5 +1,6 @@
--- After the silence that ends a match no line is left over: it is the last look for a line of its side (`last_found`),
--- and when a look finds none, all lines that came were read (`all_if_silent`).
+-- After the silence that ends a match no line is left over: all lines in the bytes that were read from its engine were
+-- read in the match. That silence is the last look for a line of its side (`last_found`), and when a look finds none,
+-- all lines that came were read (`all_if_silent`).
 use Rattle.std.proofs.Common.{◌≡◌, ℕ, Bool, true, List, [], ◌∷◌, ◌++◌, refl, ap, ◌∙◌, Option, None, Some}
 use Rattle.std.specs.List.{flat_map, last_or}
 use Rattle.chess_base.specs.{declared.man.Colour.Colour, Men.same_colour, Options.list_if}

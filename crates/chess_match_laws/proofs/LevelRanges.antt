@@ -1,5 +1,6 @@
--- A text that is parsed as a level has numbers within the ranges of levels (`read_in_range`), so what is written of the
--- level is parsed as the same level (`read_back`).
+-- A text that is parsed as a level has numbers within the ranges of levels (`read_in_range`), since a number that is
+-- parsed has at most three digits. So what is written of the level is parsed as the same level (read_back), by
+-- LevelTexts.level_back.
 use Rattle.std.proofs.Common.{◌≡◌, ℕ, zero, suc, ◌+◌, ◌-◌, ◌*◌, ◌^◌, ◌<◌, ◌≤◌, Bool, true, false, List, length, take, drop, Option, None, Some, Err, refl, ap, subst, arith, ◌==◌, ◌&&◌, ◌||◌, nat_lt, nat_le, if◌then◌else◌, option_and_then, option_map}
 use Rattle.std.specs.{List.list_all, List.position_or_len, Result.result_ok, Str.Parse.digits_value}
 use Rattle.std.proofs.{lemmas.Bool.Decides.nat_tests, lemmas.Str.Parse.digits_value_short}

@@ -1,5 +1,6 @@
--- What is written of a level is parsed as that level: its three words have neither spaces nor tabs, and each is parsed
--- as the number (of moves, or milliseconds) that it was written for.
+-- A level of at most 999 moves, a base of at most 59,999,999 and an increment of at most 999,999 milliseconds is parsed
+-- back from what is written of it (level_back): its three words have neither spaces nor tabs, and each is parsed as the
+-- number for which it was written. For this, lemmas on digits, decimals, and what comes before a colon or a point.
 use Rattle.std.proofs.Common.{◌≡◌, ℕ, suc, ◌+◌, ◌*◌, ◌/◌, ◌%◌, ◌<◌, ◌≤◌, Bool, true, false, eqb, ltb, leb, List, [], ◌∷◌, ◌++◌, length, take, drop, Some, refl, sym, ap, ◌∙◌, arith, rules, decimal, ◌==◌, append-nil, length-append, take_all}
 use Rattle.std.specs.{List.list_all, List.position_or_len, Char.digit_value, Str.Parse.digits_value}
 use Rattle.std.proofs.{lemmas.Bool.and_parts, lemmas.Bool.Decides.nat_tests, lemmas.Str.Parse.IsNumeralModel, lemmas.Str.Parse.numerals_by_value, lemmas.Str.digit_value_digit}

@@ -1,5 +1,6 @@
--- A match reads at most 22,000 + 10,002 * (limit + 1) lines. The invariant (`AreFew`), which each act keeps, bounds the
--- lines read so far by the phase, the lines counted in it, the moves played and the open offer.
+-- At each moment a match has read at most 22,000 + 10,002 * (limit + 1) lines of both engines together. The invariant
+-- (`AreFew`), which each act keeps, bounds the lines read so far by the phase, the lines counted in it, the moves
+-- played and the open offer.
 use Rattle.std.proofs.Common.{◌≡◌, ℕ, ◌+◌, ◌*◌, ◌≤◌, ◌<◌, Bool, true, false, List, [], ◌∷◌, ◌++◌, length, length-append, refl, subst, arith, Option}
 use Rattle.chess_base.specs.{declared.man.Colour.Colour, declared.man.Colour.TheVariants.White, declared.man.Colour.TheVariants.Black, Men.same_colour, Options.list_if}
 use Rattle.cecp_engine.specs.EngineLines.{LineKind}
@@ -77,7 +78,7 @@ silent_few r k S moment m w = silence_cases r S moment m (λ e. Few r k e.after)
   goes_on = λ since. w;
 })
 
--- the moment at the end of an opening keeps it
+-- the moment that the clock shows at the end of an opening keeps the bound (`FewIn`)
 opened : (r : Rules) (k : ℕ) (S : Colour) (moment : ℕ) (m : Match) → FewIn r k (Opening S) m
     → FewIn r k (BeforeMove S moment) m
 opened r k S moment m h1 = grind arith

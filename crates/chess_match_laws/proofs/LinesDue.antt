@@ -1,5 +1,7 @@
--- A line that is due (`IsDue`), by the lines that its engine was sent and has said, is one that the match expects in
--- its phase (`IsExpected`). The lemma `due_is_expected` follows from what holds whenever a line of S is read (`Facts`).
+-- If a line is due (`IsDue`) by what its engine was sent and has said, the match expects it in its phase (`IsExpected`;
+-- due_is_expected). This needs what holds whenever a line of a side S is read (`Facts`, facts_at): which pings S was
+-- sent (PingLaw), that in its turn the last line that it was sent is no `ping`, which items it has said, and how many
+-- lines were counted in its handshake.
 use Rattle.std.proofs.Common.{◌≡◌, ◌∙◌, ℕ, ◌+◌, ◌-◌, ◌≤◌, ◌<◌, Bool, true, false, List, [], ◌∷◌, ◌++◌, length, length-append, refl, sym, ap, subst, append-nil, append_assoc, Option, None, arith, ◌/◌, codes, if◌then◌else◌, nat_lt}
 use Rattle.std.specs.List.{flat_map, list_any}
 use Rattle.std.proofs.lemmas.Bool.Decides.{nat_tests}

@@ -1,5 +1,8 @@
--- An engine is sent the other's moves, each once and in order, by the scheme of Givings: `all_texts` is what O is to be
--- sent, and `Owed` says what of it may be unsent.
+-- An engine O is sent the other's moves, each once and in order, by the scheme of Givings: `all_texts` is what O is to
+-- be sent, and `Owed` says what of it may be unsent (moves_are_sent). At the end nothing is, unless a write to O failed
+-- (all_moves_are_given, all_moves_are_sent), nor when its line or the clock for its opening is read (all_sent_before).
+-- So at its line O was sent a move exactly if the other has made one, as each move has a used time
+-- (moves_sent_are_known).
 use Rattle.std.proofs.Common.{◌≡◌, ℕ, ◌+◌, ◌≤◌, Bool, true, false, List, [], ◌∷◌, ◌++◌, length, length-append, refl, ap, sym, subst, ◌∙◌, append-nil, append_assoc, lt-ltb, Option, arith, if◌then◌else◌, nat_lt, codes}
 use Rattle.std.proofs.lemmas.Grind.{flat_map-append}
 use Rattle.chess_base.specs.{declared.man.Colour.Colour, declared.man.Colour.TheVariants.White, declared.man.Colour.TheVariants.Black, declared.man.Move.Move, Men.other, Men.same_colour, Options.list_if}

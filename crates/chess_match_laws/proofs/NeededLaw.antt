@@ -1,5 +1,6 @@
--- Engines whose handshakes are done have what the match needs. The invariant (`Needed`) says so of each match whose
--- handshakes are done; each act keeps it.
+-- Whenever the clock is read for the opening of a turn, both engines have what the match needs. The invariant
+-- (`Needed`) says so of each match whose handshakes are done and that is on; each act keeps it, since a match in which
+-- an engine lacks something ends with Black's handshake.
 use Rattle.std.proofs.Common.{◌≡◌, ℕ, ◌+◌, ◌-◌, Bool, true, false, not, ◌&&◌, List, [], ◌∷◌, refl, sym, ap, subst, Option, None, Some, codes, if◌then◌else◌, is_some, nat_le}
 use Rattle.std.specs.List.{list_any}
 use Rattle.chess_base.specs.{declared.man.Colour.Colour, declared.man.Colour.TheVariants.White, declared.man.Colour.TheVariants.Black}

@@ -1,5 +1,7 @@
--- The notes of a match have all its events, lines and moments, in order. For lines and moments by induction over the
--- acts; for events too, from any state on, since a failed write is noted exactly if the match ended by it.
+-- The notes of a match have all lines sent (all_lines) and read (all_lines_read), all moments (all_moments) and all
+-- events (in_order), in order; so the events in them lead from the beginning to the final state (all_events). By
+-- induction over the acts; for events from any state on, since a failed write is noted exactly if the match ended by
+-- it.
 use Rattle.std.proofs.Common.{◌≡◌, ℕ, Bool, true, false, List, [], ◌∷◌, ◌++◌, refl, ap, sym, subst, ◌∙◌, if◌then◌else◌}
 use Rattle.chess_base.specs.{declared.man.Colour.Colour, declared.man.Colour.TheVariants.White, declared.man.Colour.TheVariants.Black, Men.same_colour, Options.list_if}
 use Rattle.chess_match.specs.Acts.{Act, Block, Sends, SendFails, Happens, blocks_from, is_over}

@@ -1,6 +1,6 @@
 -- A draw is agreed by an offer of one side and then one of the other, which makes no move in between. By induction over
 -- the acts, back from the end (`EndsAgreed`): before each act the first offer is open, or comes among the acts that
--- follow.
+-- follow. For OfferedLaw, too: before the first turn no offer is open (`Fresh`), which each act keeps.
 use Rattle.std.proofs.Common.{◌≡◌, ◌∙◌, ◌⊎◌, ℕ, ◌-◌, Bool, true, false, not, ◌&&◌, ◌||◌, List, [], ◌∷◌, ◌++◌, length, refl, sym, ap, subst, inl, inr, Option, Some, None, arith, if◌then◌else◌, nat_lt, nat_le, unwrap_or, ◌==◌}
 use Rattle.std.specs.{List.list_any, Option.option_map_or}
 use Rattle.std.proofs.lemmas.Bool.{and_parts, or_cases}

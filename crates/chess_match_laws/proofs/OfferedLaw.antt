@@ -1,5 +1,6 @@
--- A side is sent `draw` at most as often as the other side offers a draw: a line makes at most one `draw` due, and only
--- if it is an offer (`line_draws`).
+-- At each moment a side was sent `draw` at most as often as the other side has offered a draw. By induction over the
+-- acts, counting also what is due: a line makes at most one `draw` due, and only if it is an offer of the other side
+-- (`line_draws`), and an end makes none due.
 use Rattle.std.proofs.Common.{◌≡◌, ◌∙◌, ◌⊎◌, ℕ, suc, ◌+◌, ◌-◌, ◌≤◌, Bool, true, false, not, ◌&&◌, List, [], ◌∷◌, ◌++◌, length, length-append, refl, sym, ap, subst, inl, inr, arith, Option, flat_map, codes, if◌then◌else◌}
 use Rattle.std.proofs.{lemmas.Bool.and_parts, lemmas.Bool.or_cases, lemmas.Grind.flat_map-append}
 use Rattle.chess_base.specs.{declared.man.Colour.Colour, declared.man.Colour.TheVariants.White, declared.man.Colour.TheVariants.Black, Men.other, Men.same_colour, Options.list_if}

@@ -1,6 +1,7 @@
--- Two matches of the same engines and clock are the same. By induction over the acts of one (`one_by`): what comes next
--- in it is what the engines and the clock give, so it comes next in the other too; and both go on with what these give
--- after that act.
+-- Two matches by the same rules, of the same engines and clock, have the same acts and the same final state. By
+-- induction over the acts of one (`one_by`): what comes next in it is what the engines and the clock give, so it comes
+-- next in the other too, and both continue with what these give after that act. How much an engine can be sent before a
+-- write fails may be counted in any weight of blocks (only_one_by): here each counts 1, in OneRunLaw its bytes.
 use Rattle.std.proofs.Common.{◌≡◌, ℕ, ◌+◌, ◌-◌, ◌<◌, ◌≤◌, Bool, true, false, List, [], ◌∷◌, ◌++◌, length, drop, suc, subst, refl, ap, sym, ◌∙◌, append_assoc, lt-ltb, Option, None, Some, arith, IfSome, if◌then◌else◌, nat_lt, option_map, slice_get}
 use Rattle.std.proofs.{Math.Seq.drop-append_seam, lemmas.Bool.and_parts, lemmas.Bool.or_left, lemmas.Bool.or_right}
 use Rattle.chess_base.specs.{declared.man.Colour.Colour, declared.man.Colour.TheVariants.White, declared.man.Colour.TheVariants.Black, Men.same_colour, Options.list_if}

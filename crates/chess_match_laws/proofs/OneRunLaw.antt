@@ -1,6 +1,6 @@
--- There is only one match of a run whose devices show all: they fix the same bytes, moments and failures for both
--- matches (`held`), so that both come from the same engines and clock (`given_by`). OneLaw.only_one_by then applies,
--- with blocks counted by their bytes.
+-- There is only one match of a run whose devices show all, if the same looks for a line found none: the devices fix the
+-- same bytes, moments and failures for both matches (`held`), so that both come from the same engines and clock
+-- (`given_by`). OneLaw.only_one_by then applies, with blocks counted by their bytes.
 use mathlib.Core.Bool.{or-true}
 use Rattle.std.proofs.Common.{◌≡◌, ℕ, ◌+◌, ◌<◌, ◌≤◌, ◌^◌, ◌-◌, zero, suc, ◌||◌, ◌⊎◌, inl, inr, Bool, true, false, List, [], ◌∷◌, ◌++◌, length, length-append, refl, ap, sym, ◌∙◌, Option, None, Some, arith, IfSome, if◌then◌else◌, is_some, nat_lt, slice_get}
 use Rattle.std.specs.Io.KnownBytes.{Appends, Consumes}

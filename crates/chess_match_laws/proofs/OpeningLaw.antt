@@ -1,5 +1,5 @@
--- Each turn is opened once. The invariant (`OpenedOf`), which each act keeps: the turns of S were opened as often as S
--- has moved, and once more while its move is awaited.
+-- At each moment the clock was read for openings of a side S as often as S has moved, or once more. The invariant
+-- (`OpenedOf`), which each act keeps: just as often, and once more while the move of S is awaited.
 use Rattle.std.proofs.Common.{◌≡◌, ◌∙◌, ℕ, ◌+◌, ◌-◌, ◌≤◌, Bool, true, false, List, [], ◌∷◌, ◌++◌, length, length-append, refl, sym, ap, subst, arith}
 use Rattle.chess_base.specs.{declared.man.Colour.Colour, declared.man.Colour.TheVariants.White, declared.man.Colour.TheVariants.Black, declared.man.Move.Move, Men.same_colour}
 use Rattle.cecp_engine.specs.EngineLines.{LineKind}

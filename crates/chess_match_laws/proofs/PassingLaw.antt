@@ -1,5 +1,7 @@
--- An open offer of a draw was passed on, and a side is sent at most one `draw` more than it has made moves. The
--- invariant (`SentTo`), which each event keeps (`tells`): one more only while an offer is open, which was passed on.
+-- Whenever a line of a side is read while the other side's offer of a draw is open, the side was sent `draw`, if its
+-- engine takes it (offers_are_passed_on); and at each moment it was sent at most one `draw` more than it has made moves
+-- (draws_are_few). By the scheme of Tellings: the invariant (`SentTo`), which each event keeps (`tells`), allows one
+-- more only while such an offer is open. First, lemmas on lines that are no `draw`.
 use Rattle.std.proofs.Common.{◌≡◌, ◌∙◌, ℕ, ◌+◌, ◌-◌, ◌≤◌, Bool, true, false, List, [], ◌∷◌, ◌++◌, length, length-append, refl, sym, ap, subst, append-nil, arith, codes, flat_map}
 use Rattle.std.proofs.lemmas.Grind.{flat_map-append}
 use Rattle.chess_base.specs.{declared.man.Colour.Colour, declared.man.Colour.TheVariants.White, declared.man.Colour.TheVariants.Black, declared.man.Move.Move, Men.other, Men.same_colour, Options.list_if}
@@ -172,7 +174,7 @@ offered White Black m X on own so_far =
 -- ---- any line
 
 module _ (r : Rules) (S : Colour) where
-  -- any line keeps it
+  -- any line keeps the invariant (`SentTo`)
   line : (C : Colour) (kind : LineKind) (moment : ℕ) (m : Match) (X : List (List ℕ)) → awaits_line m.phase C ≡ true
       → Kept r m → SentTo S m X
       → SentTo S (line_row r m.phase kind moment m).after

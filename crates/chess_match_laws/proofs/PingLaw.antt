@@ -1,5 +1,6 @@
--- The n-th ping that a side is sent has the number n. The invariant (`ToldIn`), which each event keeps (`tells`), also
--- says by the phase how many it was sent.
+-- At each moment the pings that a side was sent (also in a block that could not be sent) have the numbers 1, 2 and so
+-- on. By the scheme of Tellings: the invariant (`ToldIn`), which each event keeps (`tells`), also says how many they
+-- are, by the phase and the number of the side's moves.
 use Rattle.std.proofs.Common.{◌≡◌, ◌∙◌, ℕ, zero, suc, ◌+◌, ◌-◌, Bool, true, false, List, [], ◌∷◌, ◌++◌, length, length-append, refl, sym, ap, subst, append-nil, arith, flat_map, codes, decimal, if◌then◌else◌}
 use Rattle.std.proofs.lemmas.Grind.{flat_map-append}
 use Rattle.chess_base.specs.{declared.man.Colour.Colour, declared.man.Colour.TheVariants.White, declared.man.Colour.TheVariants.Black, declared.man.Move.Move, Men.other, Men.same_colour, Options.list_if}

@@ -1,6 +1,7 @@
--- Induction over the acts of a match up to a moment (`by_points`, from MatchCases.by_acts of chess_match). At each act
--- it may be used that the side to move and the number of used times agree with the moves played (`Kept`). And what
--- holds at each moment holds of a whole match (`in_each`).
+-- Induction over the acts of a match up to a moment (by_points, from MatchCases.by_acts of chess_match). At each act it
+-- may be used that the side to move and the number of used times agree with the moves played (`Kept`), and that a match
+-- that is over stays as it is. A match ends in the state after all its acts (end_after_acts), so what holds at each
+-- moment holds of a whole match (in_each).
 use Rattle.std.proofs.Common.{◌≡◌, ℕ, ◌+◌, ◌-◌, ◌<◌, Bool, true, false, List, [], ◌∷◌, ◌++◌, length, length-append, refl, ap, sym, ◌∙◌, subst, append-nil, Option, arith, if◌then◌else◌}
 use Rattle.chess_base.specs.{declared.man.Colour.Colour, declared.man.Colour.TheVariants.White, declared.man.Move.Move, Men.other, Men.same_colour}
 use Rattle.cecp_engine.specs.EngineLines.{LineKind}
@@ -112,7 +113,7 @@ kept_line r S kind moment m aw k = line_cases r S kind moment m (λ e. Kept r e.
     said : (C : Colour) → length ((said_by S kind m).seat C).used ≡ turns_of C r.start.side m.played
     said C = ap length (said_used S C kind m) ∙ k.1 C
 
--- a silence keeps it
+-- a silence keeps `Kept`
 kept_silent : (r : Rules) (S : Colour) (moment : ℕ) (m : Match) → Kept r m → Kept r (effect r m (Silent S moment)).after
 kept_silent r S moment m k = silence_cases r S moment m (λ e. Kept r e.after) (record {
   stops = λ reason w. (tt, k.1);

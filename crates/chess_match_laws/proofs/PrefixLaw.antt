@@ -1,5 +1,6 @@
--- Each move that an engine is sent has `usermove` before it, if the engine asked for it, and otherwise none has. The
--- invariant (`SentTo`), which each event keeps (`tells`): no move is sent in a handshake, and each later one as asked.
+-- At each moment each move that an engine was sent (also in a block that could not be sent) has `usermove` before it,
+-- if the engine has that feature on, and otherwise none has. By the scheme of Tellings: the invariant (`SentTo`), which
+-- each event keeps (`tells`), says that no move is sent in a handshake, and each later one as asked.
 use Rattle.std.proofs.Common.{◌≡◌, ◌∙◌, ℕ, ◌-◌, Bool, true, false, List, [], ◌∷◌, ◌++◌, length, refl, sym, ap, subst, append-nil, arith, ◌/◌, codes, if◌then◌else◌, nat_lt}
 use Rattle.std.specs.List.{AllByRecursion, flat_map}
 use Rattle.std.proofs.lemmas.Grind.{flat_map-append}

@@ -1,5 +1,6 @@
--- The moves of a match are read off the two engines' lines. By induction over the acts, back from the end (`ReadsOff`):
--- the moves to come are what the `move` lines to come denote in turn.
+-- At each moment the moves played are what the two engines' `move` lines denote in turn, but for at most one last line.
+-- By induction over the acts, back from the end (`ReadsOff`): the moves to come are what the `move` lines to come
+-- denote.
 use Rattle.std.proofs.Common.{◌≡◌, ℕ, ◌+◌, ◌-◌, ◌≤◌, true, false, List, [], ◌∷◌, ◌++◌, length, refl, ap, sym, subst, ◌∙◌, append-nil, append_assoc, Option, arith}
 use Rattle.std.specs.List.{list_any}
 use Rattle.chess_base.specs.{declared.man.Colour.Colour, declared.man.Colour.TheVariants.White, declared.man.Colour.TheVariants.Black, declared.man.Move.Move, Men.other, Men.same_colour, Options.list_if}

@@ -1,5 +1,7 @@
--- The two engines' lines fix which moves each engine is sent: they fix the items known of each engine
--- (`items_are_said`) and the moves played (ReadLaw), and MoveLaw says which of these are sent, and how.
+-- The two engines' lines fix which moves each engine is sent, at each moment (each_is_sent_so_far) and in the whole
+-- match (each_is_sent_the_others). They fix the items known of each engine (items_are_said: by induction over the acts,
+-- back from the end, those known and those that the lines to come say are those at the end) and the moves played
+-- (ReadLaw), and MoveLaw says which of these are sent, and how.
 use Rattle.std.proofs.Common.{◌≡◌, ℕ, ◌+◌, ◌-◌, ◌≤◌, Bool, true, false, List, [], ◌∷◌, ◌++◌, length, refl, ap, sym, ◌∙◌, append-nil, append_assoc, Option, arith, if◌then◌else◌}
 use Rattle.std.specs.List.{list_any}
 use Rattle.chess_base.specs.{declared.man.Colour.Colour, declared.man.Colour.TheVariants.White, declared.man.Colour.TheVariants.Black, Men.other, Men.same_colour}

@@ -1,5 +1,6 @@
--- While the `pong 1` of a side is awaited, the lines that it was sent last are those of its setup (`Told`, which each
--- event keeps); and for two examples the bytes of these lines are computed.
+-- While the `pong 1` of a side is awaited, the lines that it was sent last are those of its setup: by the scheme of
+-- Tellings, with an invariant (`Told`) that each event keeps (`tells`). For two examples the bytes of these lines are
+-- computed: normal chess with `level 40 5 0`, and Chess960 with `level 0 2 12`.
 use Rattle.std.proofs.Common.{◌≡◌, ◌∙◌, ℕ, eqb, arith, Bool, true, false, not, ◌&&◌, None, Some, List, [], ◌∷◌, ◌++◌, refl, sym, ap, subst, append-nil, append_assoc, Option, bytes_eq, flat_map, codes, if◌then◌else◌}
 use Rattle.std.proofs.lemmas.Bool.Decides.{nat_tests}
 use Rattle.std.specs.{Option.option_map_or, Fmt.digits}
@@ -85,7 +86,7 @@ set_up_next r White X = record { last = λ c e own. absurd (not_his c e own) }
     not_his Black e own = absurd (cc)
 
 module _ (r : Rules) (S : Colour) where
-  -- any line keeps it
+  -- any line keeps the invariant (`Told`)
   line : (C : Colour) (kind : LineKind) (moment : ℕ) (m : Match) (X : List SentLine) → awaits_line m.phase C ≡ true
       → Kept r m → Told r S m X
       → Told r S (line_row r m.phase kind moment m).after

@@ -1,5 +1,6 @@
--- What silences do. Rules without a limit to waiting allow none (`none_silent`); one ends the match exactly if its side
--- is beyond its limit, phase by phase (`beyond`), and otherwise changes nothing (`within`).
+-- By rules without a limit to waiting there are no silences (`none_silent`). A silence ends the match exactly if its
+-- side is beyond its limit, phase by phase (beyond); within it a silence changes nothing, if the time for a reply runs
+-- already (`within`). For other laws: it ends the match, or changes only since when a reply is awaited (by_silence).
 use Rattle.std.proofs.Common.{◌≡◌, ℕ, ◌-◌, ◌<◌, Bool, true, false, List, [], ◌∷◌, ◌++◌, length, refl, ap, sym, ◌∙◌, Option, None, Some, arith, if◌then◌else◌, is_some, nat_lt, slice_get, unwrap_or}
 use Rattle.std.specs.{List.list_any, Option.option_map_or}
 use Rattle.std.proofs.lemmas.Bool.{and_parts}

@@ -1,6 +1,7 @@
--- A side loses on time exactly if the clock showed more than it had left. An act that shows this ends the match on time
--- (`late_line`, `late_silence`), and nothing that comes in time ends it so (`line_timely`, `silence_timely`). Induction
--- over the acts.
+-- A side loses on time, or draws against a bare king, exactly if an act showed that more time had passed than it had
+-- left. Such an act ends the match so (`late_line`, `late_silence`, and for a whole match `overstepped`). Nothing that
+-- comes in time ends it so (`line_timely`, `silence_timely`); hence by induction over the acts a match that ended so
+-- has such an act, and after it only blocks (`shown`).
 use Rattle.std.proofs.Common.{◌≡◌, ℕ, ◌-◌, Bool, true, false, List, [], ◌∷◌, ◌++◌, refl, ap, sym, ◌∙◌, subst, Option, None, Some, arith, if◌then◌else◌, length, nat_le, nat_lt}
 use Rattle.std.specs.Option.{option_map_or}
 use Rattle.std.proofs.lemmas.Bool.{and_parts}

@@ -1,6 +1,6 @@
--- The times that an engine O is sent are the clocks, by the scheme of Givings. `own` says which: its own clock, in
--- `time` lines, or its opponent's, in `otim` lines. `AllOf` is what O is to be sent, and `RestIs` says what of it may
--- be unsent.
+-- At each moment the times that an engine O was sent are the clocks, but for at most the last: in `time` lines its own
+-- (`own` is true; times_are_clocks), in `otim` lines its opponent's (`own` is false; other_times_are_clocks). By the
+-- scheme of Givings, once for both: `AllOf` is what O is to be sent, and `RestIs` says what of it may be unsent.
 use Rattle.std.proofs.Common.{◌≡◌, ℕ, ◌+◌, ◌-◌, ◌/◌, ◌≤◌, Bool, true, false, ◌||◌, List, [], ◌∷◌, ◌++◌, length, length-append, drop, refl, ap, sym, subst, ◌∙◌, append-nil, arith, flat_map, if◌then◌else◌, codes, sum}
 use Rattle.std.proofs.{lemmas.Grind.flat_map-append, lemmas.List.Sums.sum_by-cons}
 use Rattle.chess_base.specs.{declared.man.Colour.Colour, declared.man.Colour.TheVariants.White, declared.man.Colour.TheVariants.Black, declared.man.Move.Move, Men.other, Men.same_colour, Options.list_if}

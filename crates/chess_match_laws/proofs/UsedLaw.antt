@@ -1,6 +1,6 @@
--- Each used time is the moment of its move's line less the moment of its turn's opening. By induction over the acts
--- (`Ends`): a line that is an awaited move adds its time since the opening to the times used, any other line adds none
--- (`Grows`).
+-- Each used time is the moment of its move's line less the moment of its turn's opening (0 if that is negative); at
+-- most one such difference is not used, if its line ended the match. By induction over the acts (`Ends`): a line that
+-- is an awaited move adds its time since the opening to the times used, any other line adds none (`Grows`).
 use Rattle.std.proofs.Common.{◌≡◌, ℕ, ◌+◌, ◌-◌, ◌≤◌, Bool, true, false, List, [], ◌∷◌, ◌++◌, length, refl, ap, sym, subst, ◌∙◌, append-nil, append_assoc, Option, None, Some, arith, if◌then◌else◌}
 use Rattle.chess_base.specs.{declared.man.Colour.Colour, declared.man.Colour.TheVariants.White, declared.man.Colour.TheVariants.Black, Men.other, Men.same_colour}
 use Rattle.cecp_engine.specs.EngineLines.{LineKind}

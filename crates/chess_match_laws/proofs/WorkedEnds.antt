@@ -1,5 +1,5 @@
--- What engines are sent at the end of a match, in examples. Each is proved by computation (`refl`); `unfolding` names
--- the definitions that are opened for it.
+-- What engines are sent at the end of a match, and to which side it is sent first, in examples. Each is proved by
+-- computation (`refl`); `unfolding` names the definitions that are opened for it.
 use Rattle.std.proofs.Common.{◌≡◌, [], ◌∷◌, Some, codes, refl}
 use Rattle.std.specs.Fmt.{digits}
 use Rattle.chess_base.specs.Attacks.{is_clear, could_capture, attacks, is_attacked, is_in_check}

@@ -1,4 +1,6 @@
--- Lines of engines and to them, time controls and ends of a match, in examples. Each is proved by computation (`refl`);
+-- Examples: what lines of engines say, the items of a `feature` line and the features that are on by them; time
+-- controls and clocks; the lines that begin handshakes and open turns; bare kings; and of ends the outcome, the kind,
+-- the reported fault and the comment. Each is proved by computation (`refl`), but the opening in SAN (WorkedSan);
 -- `unfolding` names the definitions that are opened for it.
 use Rattle.std.proofs.Common.{refl}
 use Rattle.std.specs.Fmt.{digits}

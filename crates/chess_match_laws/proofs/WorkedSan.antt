@@ -1,5 +1,5 @@
--- How a turn is opened with a move in SAN, in an example that is proved by computation (`refl`); `unfolding` names the
--- definitions that are opened for it.
+-- An example: after 1 e4, with `san` on in Black's engine, Black's first turn is opened by `e4`, the clocks and `go`.
+-- It is proved by computation (`refl`); `unfolding` names the definitions that are opened for it.
 use Rattle.std.proofs.Common.{[], ◌∷◌, refl}
 use Rattle.std.specs.Fmt.{digits}
 use Rattle.chess_base.specs.Attacks.{is_clear, could_capture, attacks, is_attacked, is_in_check}

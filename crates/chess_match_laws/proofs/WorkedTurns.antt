@@ -1,5 +1,6 @@
--- What lines of engines do in a match, in examples. Each is proved by computation (`refl`); `unfolding` names the
--- definitions that are opened for it.
+-- What lines and silences of engines do in a match, in examples: claims of a result, offers of a draw, ignored lines,
+-- the ends of handshakes, silences, and from when on the time for a reply runs. Each is proved by computation (`refl`);
+-- `unfolding` names the definitions that are opened for it.
 use Rattle.std.proofs.Common.{◌≡◌, false, true, refl}
 use Rattle.std.specs.Fmt.{digits}
 use Rattle.chess_base.specs.Attacks.{is_clear, could_capture, attacks, is_attacked, is_in_check}

@@ -46,7 +46,7 @@ pub record HasNeeded (r : Rules) (items : List Item) : Type 0 where
   pub setboard : is_some (start_fen r.start) ≡ true → takes (codes "setboard") items ≡ true
   pub variant : r.start.variant ≡ Fischerandom → plays_fischerandom items ≡ true
 
--- both engines have what the match needs
+-- both engines have what the match needs (whichever side `S` is asked for its move)
 abbrev pub BothHaveNeeded : Rules → Colour → List Act → Match → Type 0
 BothHaveNeeded r S H m = (X : Colour) → HasNeeded r (m.seat X).items
 
@@ -57,7 +57,8 @@ abbrev pub prefix_of : SentLine → List Bool
 prefix_of (MoveSent prefixed text) = prefixed ∷ []
 prefix_of _ = []
 
--- each move that a side `S` is sent has `usermove` before it exactly if its engine has that feature on
+-- each move in the blocks for each side `S`, also in one that could not be sent, has `usermove` before it exactly if
+-- the engine of `S` has that feature on
 abbrev pub PrefixesAreAsAsked : Rules → List Act → Match → Type 0
 PrefixesAreAsAsked r H m = (S : Colour) → AllByRecursion (λ (b : Bool). b ≡ takes (codes "usermove") (m.seat S).items)
     (flat_map prefix_of (lines_given S H))

@@ -1,5 +1,6 @@
--- Laws of the acts of a match, `H` in order: each sends an engine a block of lines, or reads an event, such as a line
--- (`Act`). `lines_sent` are the lines that were sent, `lines_given` these and those of blocks that could not be sent.
+-- Laws of the acts of a match, `H` in order: each sends an engine a block of lines, fails to, or reads an event, such
+-- as a line (`Act`). `lines_sent` are the lines that were sent, `lines_given` these and those of blocks that could not
+-- be sent.
 -- Notes are what a witness, such as the log, is given.
 use Rattle.std.specs.Prelude.{◌≡◌, ◌<◌, ◌≤◌, ◌+◌, ◌-◌, ◌*◌, ◌^◌, ◌&&◌, ◌⊎◌, ℕ, Bool, true, false, if◌then◌else◌, List, [], ◌∷◌, ◌++◌, length, drop, take, nat_lt, sum, codes, slice_get, Option, None, Some, is_some, unwrap_or}
 use Rattle.std.specs.List.{flat_map, fold, list_any}
@@ -130,8 +131,8 @@ WriteFaultsAreOfBlocks r H m = (S : Colour) → ended_by_write_to S m.phase ≡ 
 
 -- ---- engines and a clock fix the match
 
--- in the acts `H` just those looks for a line were silences (found none yet) that `silent` names, by side and number,
--- from 0 on
+-- in the acts `H` just those looks for a line were silences (found none yet) of which `silent` says so, by the side and
+-- the look's number, from 0 on
 abbrev pub AreSilent : (Colour → ℕ → Bool) → List Act → Type 0
 AreSilent silent H = (S : Colour) (n : ℕ) → n < length (looks S H) → slice_get (looks S H) n ≡ Some (silent S n)
 
@@ -197,8 +198,9 @@ abbrev pub HaveSameSilences : Rules → List Act → List Act → Type 0
 HaveSameSilences r H K =
     (r.patience ≡ endless) ⊎ ((silent : Colour → ℕ → Bool) × AreSilent silent H × AreSilent silent K)
 
--- two matches by the same rules, played from the world `w` (devices and game) to `w'`, have the same acts and the same
--- final state, if everything is known about the devices, and the same looks for a line found none
+-- two matches by the same rules, both played from the world `w` (devices and game) to `w'`, have the same acts and the
+-- same final state, if everything is known about the devices, and the same looks for a line found none, or the rules
+-- set no limit to waiting
 abbrev pub OnlyOneMatchOfARun : Type 0
 OnlyOneMatchOfARun = (r : Rules) (H K : List Act) (final final' : Match) (w w' : World) → Passed r H final w w'
     → Passed r K final' w w' → ShowsAll w w' → HaveSameSilences r H K → (H ≡ K) × (final ≡ final')
@@ -256,17 +258,17 @@ abbrev pub others_moves : Rules → Colour → List Item → List Move → List 
 others_moves r O items ms = texts_from r (takes (codes "san") items) (other O) r.start.side [] ms
 
 -- the blocks for each side `O`, also one that could not be sent, have the other side's moves, each once and in order,
--- but for `rest`: at most the last. While the `pong` after the last move is awaited (`is_owed_move`), no block has it
--- yet
+-- but for `rest`: at most the last. While the `pong` of the side that made the last move is awaited (`is_owed_move`),
+-- no block has that move yet
 abbrev pub MovesAreSent : Rules → List Act → Match → Type 0
 MovesAreSent r H m = (O : Colour) → (rest : List (List ℕ)) × (length rest ≤ 1)
     × (is_owed_move m.phase O ≡ true → length rest ≡ 1)
     × (moves_sent (lines_given O H) ++ rest ≡ others_moves r O (m.seat O).items m.played)
 
 -- the engines' lines fix the moves that each is sent, but for the last: their `move` lines denote the moves `ms` in
--- turn (at most one line is left over), and each side `O` is sent the other side's, each once and in order, in SAN or
--- by squares, as its handshake asked for. `rest` is not sent: at most the last, and nothing, if the match is over
--- (`whole`) and not because writing to `O` failed
+-- turn (at most one line is left over), and the blocks for each side `O`, also one that could not be sent, have the
+-- other side's, each once and in order, in SAN or by squares, as its handshake asked for, but for `rest`: at most the
+-- last, and nothing of a whole match (`whole`) that did not end because writing to `O` failed
 abbrev pub EachIsSentOthersMoves : Bool → Rules → List Act → Match → Type 0
 EachIsSentOthersMoves whole r H m =
     (ms : List Move)
@@ -309,15 +311,16 @@ EndsAtVerdicts r H m = (length m.played ≤ r.limit)
 
 -- ---- clocks
 
--- the `time` lines that each side `S` is sent show its own clock before its first move and after each of its moves, in
--- order, but for `rest`: at most the last; none with `time=0`
+-- the `time` lines in the blocks for each side `S`, also in one that could not be sent, show its own clock before its
+-- first move and after each of its moves, in order, but for `rest`: at most the last; none with `time=0`
 abbrev pub TimesAreClocks : Rules → List Act → Match → Type 0
 TimesAreClocks r H m = (S : Colour) → (rest : List ℕ) × (length rest ≤ 1)
     × (flat_map time_sent (lines_given S H) ++ rest
     ≡ (if takes (codes "time") (m.seat S).items then centiseconds (r.level S) 0 0 (m.seat S).used else []))
 
--- the `otim` lines that each side `S` is sent show the other's clock after each of the other's moves, in order, and
--- before the first of them if `S` moves first, but for `rest`: at most the last; none with `time=0`
+-- the `otim` lines in the blocks for each side `S`, also in one that could not be sent, show the other's clock after
+-- each of the other's moves, in order, and before the first of them if `S` moves first, but for `rest`: at most the
+-- last; none with `time=0`
 abbrev pub OtherTimesAreClocks : Rules → List Act → Match → Type 0
 OtherTimesAreClocks r H m = (S : Colour) → (rest : List ℕ) × (length rest ≤ 1)
     × (flat_map otim_sent (lines_given S H) ++ rest
@@ -358,13 +361,14 @@ abbrev pub is_silent : Act → Bool
 is_silent (Happens (Silent side moment)) = true
 is_silent _ = false
 
--- in every match by rules that set no limit to waiting no act is a silence
+-- in every match by rules that set no limit to waiting no act is a silence, and no look for a line found none
 abbrev pub SilencesAreAskedFor : Type 0
 SilencesAreAskedFor = (r : Rules) (H : List Act) (final : Match) → IsMatch r H final → r.patience ≡ endless
     → (list_any is_silent H ≡ false) × AreSilent (λ S n. false) H
 
--- whether the side `S`, whose line is awaited, is beyond its limit at this moment: before its move, if more time had
--- passed since the opening than it had left; otherwise, if it owed its line for longer than the rules allow
+-- whether the side `S`, whose line is awaited in the match `m`, in this phase, is beyond its limit at this moment:
+-- before its move, if more time had passed since the opening of its turn than it had left; otherwise, if it owed its
+-- line for longer than the rules allow
 abbrev pub is_beyond : Rules → Match → Phase → Colour → ℕ → Bool
 is_beyond r m (BeforeMove side opened) S moment = nat_lt (clock r m S) (moment - opened)
 is_beyond r m _ S moment =
@@ -394,8 +398,8 @@ SilencesLeaveNoLine = (before after : List Act) (S : Colour) (moment : ℕ) (rea
     PlayedBy H reason setup end w w' → only_sends after ≡ true
     → (i : FromInput) × InputGave (w.engines S).input (w'.engines S).input i × (engine_lines i.text ≡ lines_read S H)
 
--- whether this act shows the flag of the side `S` fallen, in a match that is `m` before it: before the move of `S` a
--- line came, or none yet, and since the opening more time had passed than `S` had left
+-- whether this act shows the flag of the side `S` fallen, in a match that is `m`, in this phase, before it: before the
+-- move of `S` a line came, or none yet, and since the opening of its turn more time had passed than `S` had left
 abbrev pub shows_fallen : Rules → Match → Phase → Colour → Act → Bool
 shows_fallen r m (BeforeMove side opened) S (Happens (Line c text moment)) =
     same_colour side S && nat_lt (clock r m S) (moment - opened)
@@ -428,8 +432,8 @@ pub record TimeForfeitsAreShown (r : Rules) (H : List Act) (final : Match) : Typ
 
 -- ---- few lines
 
--- at most this many lines are read of both engines: 1,000 in each handshake, 10,000 in each setup, and in each of
--- `limit` + 1 turns 9,999 ignored ones, an offer of a draw, the move and the `pong`
+-- at most this many lines are read of both engines together: 1,000 in each of two handshakes, 10,000 in each of two
+-- setups, and in each of `limit` + 1 turns 9,999 ignored ones, an offer of a draw, the move and the `pong`
 abbrev pub LinesAreFew : Rules → List Act → Match → Type 0
 LinesAreFew r H m = length (lines_read White H) + length (lines_read Black H) ≤ 22000 + 10002 * (r.limit + 1)
 

@@ -40,7 +40,7 @@ pub record SetUpBy (r : Rules) (S : Colour) (sent : List ℕ) : Type 0 where
   pub chess960 : r.start.variant ≡ Fischerandom → r.level S ≡ record { moves = 0; base = 120000; increment = 12000 }
       → (before : List ℕ) × (sent ≡ before ++ chess960_setup r.start)
 
--- while the side `S` owes `pong 1`, its setup is what it was sent last (`SetUpBy`)
+-- while the side `S` owes `pong 1`, its setup is what it was sent last, in two cases (`SetUpBy`)
 abbrev pub IsSetUp : Rules → Colour → List Act → Match → Type 0
 IsSetUp r S H m = m.phase ≡ Setup S → SetUpBy r S (bytes_of (lines_given S H))
 
@@ -56,7 +56,7 @@ abbrev pub pings : ℕ → ℕ → List (List ℕ)
 pings number zero = []
 pings number (suc more) = (codes "ping " ++ decimal number) ∷ pings (number + 1) more
 
--- the n-th `ping` that each side is sent has the number n
+-- the n-th `ping` in the blocks for each side, also in one that could not be sent, has the number n
 abbrev pub PingsAreNumbered : Rules → List Act → Match → Type 0
 PingsAreNumbered r H m = (S : Colour) → let sent = flat_map ping_text (lines_given S H) in sent ≡ pings 1 (length sent)
 
@@ -65,11 +65,11 @@ abbrev pub go_text : SentLine → List (List ℕ)
 go_text (Says text) = list_if (bytes_eq text (codes "go")) (text ∷ [])
 go_text _ = []
 
--- each side is sent `go` at most once
+-- the blocks for each side, also one that could not be sent, have `go` at most once
 abbrev pub GoIsSentOnce : Rules → List Act → Match → Type 0
 GoIsSentOnce r H m = (S : Colour) → length (flat_map go_text (lines_given S H)) ≤ 1
 
--- the side `S` was sent `go` once
+-- the side `S` was sent `go` just once (a block that could not be sent counts)
 abbrev pub WasSentGo : Rules → Colour → List Act → Match → Type 0
 WasSentGo r S H m = length (flat_map go_text (lines_given S H)) ≡ 1
 
@@ -86,7 +86,8 @@ openings S [] = 0
 openings S (Happens (Opened side moment) ∷ H) = one_if (same_colour side S) + openings S H
 openings S (_ ∷ H) = openings S H
 
--- a turn of each side `S` was opened as often as `S` has moved (`used` has a time for each move), or once more
+-- the clock was read for openings of each side `S` as often as `S` has moved (`used` has a time for each move), or once
+-- more
 abbrev pub TurnsAreOpenedOnce : Rules → List Act → Match → Type 0
 TurnsAreOpenedOnce r H m = (S : Colour) → (length (m.seat S).used ≤ openings S H)
     × (openings S H ≤ length (m.seat S).used + 1)
@@ -104,8 +105,8 @@ abbrev pub is_move_of : Colour → Act → Bool
 is_move_of S (Happens (Line side text moment)) = same_colour side S && is_move (line_kind text)
 is_move_of S _ = false
 
--- a draw was agreed by these acts: the other side offered it, and then `side` did too, by the match's last line. In
--- between `side` made no move, by which the offer would have lapsed
+-- a draw was agreed by the acts `H`: the other side offered it, and then `side` did too, by the last line that was
+-- read. In between `side` sent no `move` line, by which the offer would have lapsed
 pub record IsAgreed (H : List Act) : Type 0 where
   -- the side that offered last
   pub side : Colour
@@ -134,13 +135,14 @@ abbrev pub draw_text : SentLine → List (List ℕ)
 draw_text (Says text) = list_if (bytes_eq text (codes "draw")) (text ∷ [])
 draw_text _ = []
 
--- while an offer of a draw by the other side is open, the side `S` was sent `draw`, unless its engine has the feature
--- off
+-- while an offer of a draw by the other side is open, the side `S` was sent `draw` (a block that could not be sent
+-- counts), unless its engine has the feature off
 abbrev pub OffersArePassedOn : Rules → Colour → List Act → Match → Type 0
 OffersArePassedOn r S H m = (m.seat (other S)).offers ≡ true → takes (codes "draw") (m.seat S).items ≡ true
     → 1 ≤ length (flat_map draw_text (lines_given S H))
 
--- each side was sent `draw` at most once more than it has moved: so a repeated offer is not passed on again
+-- each side was sent `draw` (a block that could not be sent counts) at most once more than it has moved: so a repeated
+-- offer is not passed on again
 abbrev pub DrawsAreFew : Rules → List Act → Match → Type 0
 DrawsAreFew r H m =
     (S : Colour) → length (flat_map draw_text (lines_given S H)) ≤ length (m.seat S).used + 1
@@ -149,7 +151,7 @@ DrawsAreFew r H m =
 abbrev pub offer_of : Option (List ℕ) → List (Option (List ℕ))
 offer_of line = list_if (is_offer (line_kind line)) (line ∷ [])
 
--- each side was sent `draw` at most as often as the other side offered a draw
+-- each side was sent `draw` (a block that could not be sent counts) at most as often as the other side offered a draw
 abbrev pub DrawsAreOffered : Rules → List Act → Match → Type 0
 DrawsAreOffered r H m = (S : Colour)
     → length (flat_map draw_text (lines_given S H)) ≤ length (flat_map offer_of (lines_read (other S) H))

@@ -1,4 +1,4 @@
--- Lines of engines and to them, time controls and ends of a match, worked out.
+-- Lines of engines and to them, time controls and ends of a match, in examples.
 use Rattle.std.specs.Prelude.{◌≡◌, ℕ, Bool, true, false, List, [], ◌∷◌, codes, map, replicate, Option, None, Some}
 use Prim.Native.String.{String as Text}
 use Rattle.chess_base.specs.declared.man.Colour.{Colour}
@@ -102,7 +102,8 @@ forty_in_five = record { moves = 40; base = 300000; increment = 0 }
 abbrev pub two_and_twelve : LevelSeen
 two_and_twelve = record { moves = 0; base = 120000; increment = 12000 }
 
--- some time controls, and how many milliseconds they give after some moves
+-- texts that are parsed as time controls or as none, texts that are written of time controls, and how many milliseconds
+-- these give in all after some moves
 pub record LevelsGive : Type 0 where
   pub forty : level_of (codes "40 5 0") ≡ Some forty_in_five
   pub twelve : level_of (codes "0 2 12") ≡ Some two_and_twelve
@@ -163,7 +164,7 @@ abbrev pub worked_rules : Rules
 worked_rules =
     rules_of initial_setup (λ S. forty_in_five) (record { flag = false; reply = None }) rules_of_draws.Claimed 20000
 
--- an engine with these items, whose moves took so many milliseconds
+-- what a match knows of an engine with these items, whose moves took so many milliseconds, and which has no open offer
 abbrev pub seat_of : Text → List ℕ → Seat
 seat_of items used = record { items = items_of (codes items); used = used; offers = false }
 
@@ -234,7 +235,7 @@ pub record KingsAreBare : Type 0 where
 
 -- ---- ends
 
--- who wins, by the reason why the match ended
+-- the outcome (who wins, a draw, or none), by the reason why the match ended
 pub record LosersLose : Type 0 where
   pub white_resigns : outcome_by_reason (over_by.Resigns White) ≡ BlackWins
   pub black_resigns : outcome_by_reason (over_by.Resigns Black) ≡ WhiteWins

@@ -1,4 +1,4 @@
--- What lines and silences of engines do in a match, worked out.
+-- What lines and silences of engines do in a match, in examples.
 use Rattle.std.specs.Prelude.{◌≡◌, ℕ, Bool, true, false, List, [], ◌∷◌, codes, map, option_map, Option, None, Some}
 use Prim.Native.String.{String as Text}
 use Rattle.std.specs.Result.{result_ok}
@@ -19,7 +19,7 @@ use Rattle.chess_match.specs.declared.reason.MatchFault.TheVariants.{NoAnswer, N
 use Rattle.chess_match.specs.declared.reason.Reason.TheVariants as over_by
 use Rattle.chess_match_laws.specs.Worked.{AreSentAs, after_e4, e4, seat_of, worked_rules}
 
--- a match in this phase, before any move; a reply is awaited since the moment 2,000
+-- a match in this phase, before any move, with engines that have `ping` on; a reply is awaited since the moment 2,000
 abbrev pub match_in : Phase → Match
 match_in phase = record {
   phase = phase;
@@ -40,7 +40,7 @@ abbrev pub phase_after : Phase → Colour → Text → Phase
 phase_after phase S line = (by_line (match_in phase) S line).after.phase
 
 -- a side that claims to have won loses by a false claim, since a mate needs no claim; one that says that the other side
--- has won resigns
+-- has won, or `resign`, resigns; and one that rejects a legal move loses
 pub record ClaimsAreJudged : Type 0 where
   pub white_claims : phase_after (BeforeMove White 1000) White "1-0 {White mates}" ≡ Over (over_by.ClaimsFalsely White)
   pub black_claims : phase_after (BeforeMove Black 1000) Black "0-1 {Black mates}" ≡ Over (over_by.ClaimsFalsely Black)
@@ -74,7 +74,7 @@ pub record OffersAreJudged : Type 0 where
   pub offer : SendsBlack (by_line (offered_by false false) White "offer draw") "draw\n"
   pub not_back : AreSentAs ((by_line (offered_by false false) White "offer draw").to White) ""
   pub is_open : ((by_line (offered_by false false) White "offer draw").after.seat White).offers ≡ true
-  -- White offers again
+  -- White offers again, while its offer is open: nothing is sent
   pub again : SendsBlack (by_line (offered_by true false) White "offer draw") ""
   -- Black has offered one too: so both agree
   pub agreed : (by_line (offered_by false true) White "offer draw").after.phase ≡ Over over_by.Agreed
@@ -138,7 +138,8 @@ five_seconds = record worked_rules { patience = record { flag = false; reply = S
 abbrev pub after_silence : Phase → ℕ → Phase
 after_silence phase moment = (effect five_seconds (match_in phase) (Silent White moment)).after.phase
 
--- what a silence does: the match goes on, or it ends by the fault that says what was missing
+-- what a silence of White does, with a limit of 5,000 milliseconds for a reply that is awaited since the moment 2,000:
+-- in time the match stays in its phase; later it ends by the fault that says what was missing
 pub record SilencesAreJudged : Type 0 where
   pub in_time : after_silence (Setup White) 7000 ≡ Setup White
   pub handshake : after_silence (Handshake White) 7001 ≡ Over (over_by.Faulted White NoHandshake)

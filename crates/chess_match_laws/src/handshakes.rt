@@ -18,8 +18,8 @@ pub fn engines_have_what_is_needed()
     ensures { AtEachOpening BothHaveNeeded }
 {}
 
-/// States a law and does nothing: each move that an engine is sent has `usermove ` before it if the engine has that
-/// feature on, and otherwise not. This holds at each moment of a match.
+/// States a law and does nothing: each move that an engine is sent (a block of lines that could not be sent counts) has
+/// `usermove ` before it if the engine has that feature on, and otherwise not. This holds at each moment of a match.
 pub fn prefixes_are_as_asked()
     ensures { AtEachMoment PrefixesAreAsAsked }
 {}

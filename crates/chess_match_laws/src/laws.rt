@@ -55,7 +55,7 @@ pub fn last_line_is_theirs()
 
 /// States a law and does nothing: the moves of a match are read off the two engines' lines. Each is the one legal move
 /// that the next `move` line of the side to move denotes. Lines before the end of a side's setup don't count, and one
-/// last line may be left over. This holds at each moment of a match.
+/// last `move` line of either side may be left over. This holds at each moment of a match.
 pub fn moves_are_read()
     ensures whole { InEachMatch MovesAreRead }
     ensures so_far { AtEachMoment MovesAreRead }
@@ -76,9 +76,10 @@ pub fn games_end_at_verdicts()
 {}
 
 /// States a law and does nothing: the two engines' lines fix which moves each is sent, but for the last. Their `move`
-/// lines denote moves in turn. Each engine is sent the other's, each once and in order, in SAN or by squares, as its
-/// handshake asks for. At most the last is not sent, and at the end only if the match ended because writing to the
-/// engine failed. This holds at each moment of a match.
+/// lines denote moves in turn. Each engine is sent the other's (a block of lines that could not be sent counts), each
+/// once and in order, in SAN or by squares, as its handshake asks for. At most the last is not sent, and at the end
+/// only if the match ended because writing to the engine failed. Also, the items known of an engine are those of its
+/// `feature` lines. All this holds at each moment of a match.
 pub fn each_is_sent_the_others()
     ensures said { InEachMatch ItemsAreSaid }
     ensures sent { InEachMatch (EachIsSentOthersMoves true) }
@@ -86,10 +87,11 @@ pub fn each_is_sent_the_others()
     ensures sent_so_far { AtEachMoment (EachIsSentOthersMoves false) }
 {}
 
-/// States a law and does nothing: an engine is sent the other's moves, each once and in order, and no others. The last
-/// one is not sent while the `pong` of the engine that made it is awaited. All were sent whenever a line of the engine
-/// is read, or the clock for the opening of its turn; and in the end, unless a write to the engine failed. If only its
-/// end lines could not be sent, its blocks have all moves.
+/// States a law and does nothing: an engine is sent the other's moves, each once and in order, and no others; at each
+/// moment all but at most the last one, which is not sent while the `pong` of the engine that made it is awaited. All
+/// were sent whenever a line of the engine is read, or the clock for the opening of its turn; and in the end, unless a
+/// write to the engine failed. If only its last block, with its end lines, could not be sent, its blocks have all
+/// moves.
 pub fn moves_are_sent_once()
     ensures whole { InEachMatch AllMovesAreSent }
     ensures given { InEachMatch AllMovesAreGiven }
@@ -108,7 +110,7 @@ pub fn moves_sent_are_known()
 /// States a law and does nothing: the `time` lines that an engine is sent show its own clock in centiseconds, rounded
 /// down, before its first move and after each of its moves, in order; the `otim` lines show its opponent's, but before
 /// the opponent's first move only to the side that moves first. The last number may be unsent, and none is sent with
-/// `time=0`. This holds at each moment of a match.
+/// `time=0`. A block of lines that could not be sent counts. This holds at each moment of a match.
 pub fn times_are_clocks()
     ensures own { InEachMatch TimesAreClocks }
     ensures others { InEachMatch OtherTimesAreClocks }
@@ -116,8 +118,9 @@ pub fn times_are_clocks()
     ensures others_so_far { AtEachMoment OtherTimesAreClocks }
 {}
 
-/// States a law and does nothing: the time that a move used is the moment of its line less the moment when its turn was
-/// opened, or 0 if that is negative. This holds at each moment of a match.
+/// States a law and does nothing: the time that is charged for a move is the moment of its line less the moment when
+/// its turn was opened, or 0 if that is negative. A last `move` line that ended the match may be charged nothing. This
+/// holds at each moment of a match.
 pub fn used_times_are_differences()
     ensures whole { InEachMatch UsedTimesAreDifferences }
     ensures so_far { AtEachMoment UsedTimesAreDifferences }
@@ -191,15 +194,15 @@ pub fn setups_are_these_lines()
     ensures { AtEachLine IsSetUp }
 {}
 
-/// States a law and does nothing: the n-th `ping` that an engine is sent has the number n. This holds at each moment of
-/// a match.
+/// States a law and does nothing: the n-th `ping` that an engine is sent (a block of lines that could not be sent
+/// counts) has the number n. This holds at each moment of a match.
 pub fn pings_are_numbered()
     ensures whole { InEachMatch PingsAreNumbered }
     ensures so_far { AtEachMoment PingsAreNumbered }
 {}
 
-/// States a law and does nothing: each engine is sent `go` at most once, and was sent it whenever the clock is read for
-/// the opening of one of its turns.
+/// States a law and does nothing: at each moment of a match each engine was sent `go` at most once (a block of lines
+/// that could not be sent counts), and just once whenever the clock is read for the opening of one of its turns.
 pub fn go_is_sent_once()
     ensures whole { InEachMatch GoIsSentOnce }
     ensures so_far { AtEachMoment GoIsSentOnce }
@@ -221,8 +224,9 @@ pub fn agreed_draws_are_offered()
 {}
 
 /// States a law and does nothing: whenever a line of a side is read while the other side's offer of a draw is open, the
-/// side of this line was sent `draw`, unless its engine has the feature off. A side is sent `draw` at most as often as
-/// the other side offers a draw, and at most once more than it makes moves; so a repeated offer is not passed on again.
+/// side of this line was sent `draw`, unless its engine has the feature off. At each moment a side was sent `draw` (a
+/// block of lines that could not be sent counts) at most as often as the other side has offered a draw, and at most
+/// once more than it has made moves; so a repeated offer is not passed on again.
 pub fn offers_are_passed_on()
     ensures passed { AtEachLine OffersArePassedOn }
     ensures offered { AtEachMoment DrawsAreOffered }

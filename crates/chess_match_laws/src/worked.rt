@@ -1,5 +1,5 @@
-//! Laws of lines, time controls and ends, worked out. A caller learns one by calling its function, which does nothing.
-//! What a law refuses are wrong definitions: with one of them it can't be proved.
+//! Laws of lines, time controls and ends, by examples that are worked out. A caller learns one by calling its function,
+//! which does nothing. What a law refuses are wrong definitions: with one of them it can't be proved.
 
 ghost use Rattle.chess_match_laws.specs.Worked.{ClocksGoOn, EndsAreOfKinds, EndsAreWorded, FaultsAreReported, FeaturesAreOn, ItemsAreRead, KingsAreBare, LevelsGive, LinesAreSent, LinesSay, LosersLose};
 ghost use Rattle.chess_match_laws.specs.WorkedTurns.{ClaimsAreJudged, EndLinesAreSent, HandshakesEnd, IgnoredAreCounted, OffersAreJudged, RepliesAreTimed, SilencesAreJudged};

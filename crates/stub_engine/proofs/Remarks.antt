@@ -1,6 +1,7 @@
--- The loops over a stub's remarks, which are the arguments `offer` and `claim` after its move. One loop says them one
--- by one, up to the first other argument (SoFar, its invariant); one looks for that argument (after_more, after_other,
--- after_end).
+-- The loops over a stub's remarks, which are the arguments `offer` and `claim` after its move. One loop sends their
+-- lines, up to the first other argument: its invariant (SoFar), kept by `more`, and what follows when a write fails
+-- (`broken`) or no remark is left (at_other, at_end). One looks for that argument (after_more, after_other, after_end).
+-- Last: the state after a stub's turn (turn_state).
 use Rattle.std.proofs.Common.{◌≡◌, ◌∙◌, ◌<◌, ◌≤◌, ◌+◌, ℕ, suc, Bor, Bool, true, false, List, [], ◌∷◌, ◌++◌, length, drop, get_or, is_some, option_map, Option, Some, None, unwrap_or, Result, IsErr, if◌then◌else◌, refl, sym, ap, append_assoc, append-nil, subst, arith, bytes_eq, codes, cond, flat_map, take}
 use Rattle.std.proofs.lemmas.List.{drop_more, at_drop_all}
 use Rattle.byte_devices.specs.Devices.{OutputState, Took, CutShort, Puts}

@@ -1,5 +1,5 @@
 //! A stub: an engine for tests, which plays its arguments in the Chess Engine Communication Protocol: moves, offers and
-//! claims of draws, and a resignation.
+//! claims of draws, a resignation (`resign`), or an end in the middle of a line (`end`).
 //!
 //! ```
 //! let arguments = ["e2e4", "offer", "resign"];

@@ -14,7 +14,7 @@ use chess_cecp::{COMMAND_LEN, Command, Go, LineServer, read_command};
 use std::marker::Model;
 use text_lines::{Line, first_word};
 
-// The reply to `protover`.
+// The reply to `protover`, whatever the version: the features that the stub has on, among them `usermove`.
 const FEATURES: &[u8] = b"feature ping=1 setboard=1 usermove=1 myname=\"stub\" done=1\n";
 
 // The line that the stub sends for the argument `offer` (`offer draw`) or `claim` (a claim of a draw), which may follow
@@ -31,7 +31,8 @@ fn remark(argument: &str) -> Option<&'static [u8]>
     }
 }
 
-// What the stub sends before an argument that it plays: nothing before `resign`, `move ` before any other.
+// What the stub sends before an argument that it plays, in the same line: nothing before `resign`, `move ` before any
+// other.
 fn prefix_of(argument: &str) -> &'static [u8]
     ensures value { result.now ≡ (if bytes_eq argument.now (codes "resign") then [] else codes "move ") }
     ensures short { length result.now ≤ 5 }
@@ -39,8 +40,8 @@ fn prefix_of(argument: &str) -> &'static [u8]
     if argument == "resign" { b"" } else { b"move " }
 }
 
-// Sends a line made of a prefix and an argument, by one write unless it is long: up to 30 bytes of the argument surely
-// fit into the buffer.
+// Sends a line made of a prefix and an argument, by one write unless it is long: with a prefix of at most 5 bytes and
+// the `\n`, up to 30 bytes of the argument surely fit into the buffer of 40.
 fn say_line<W: Output>(writer: &mut W, prefix: &[u8], argument: &str) -> Result<(), WriteFault>
     requires { length prefix.now ≤ 5 }
     ensures { Puts (W.seen writer.old) (W.seen writer.new) result (prefix.now ++ (argument.now ++ new_line ∷ [])) }
@@ -123,8 +124,9 @@ fn say_played<W: Output>(
     say_remarks(arguments, from, writer)
 }
 
-// Sends what the stub plays in its turn: the argument at the index `at` and the `offer` and `claim` after it; `resign`
-// if there is none. Returns whether the stub goes on: not after `end`.
+// Sends what the stub plays in its turn: the line of the argument at the index `at`, and those of each `offer` and
+// `claim` right after it; `resign` if no argument is left. At `end` it sends only `mov`, an unended line. Returns
+// whether the stub continues: not after `end`.
 fn say_turn<W: Output>(arguments: &[&str], at: usize, writer: &mut W) -> Result<Go, WriteFault>
     requires { at ≤ length arguments.now }
     ensures written { Puts (W.seen writer.old) (W.seen writer.new) result (turn (drop at arguments.now)).text }
@@ -143,7 +145,8 @@ fn say_turn<W: Output>(arguments: &[&str], at: usize, writer: &mut W) -> Result<
     Ok(Go::On)
 }
 
-// The index of the first argument that is not yet used after a turn that began with the one at the index `at`.
+// The index of the first argument that is not yet used after a turn that began with the one at the index `at`; the
+// number of arguments, if all are used.
 fn after_turn(arguments: &[&str], at: usize) -> usize
     requires { at ≤ length arguments.now }
     ensures in_range { result ≤ length arguments.now }
@@ -193,7 +196,8 @@ impl<'a> Stub<'a> {
         }
     }
 
-    // Takes the stub's turn: plays the next argument, and returns whether the stub goes on.
+    // Takes the stub's turn: plays the next argument (and `offer` and `claim` after it), after which the stub plays a
+    // side, and returns whether the stub continues.
     #[tactic(auto, using(crate::proofs::Remarks::turn_state))]
     fn play<W: Output>(&mut self, writer: &mut W) -> Result<Go, WriteFault>
         ensures next { self.new ≡ (turn self.old.arguments).state }
@@ -207,7 +211,7 @@ impl<'a> Stub<'a> {
     }
 
     // Obeys a line by its first word: after `usermove` it is the stub's turn if it plays a side, and after `force` it
-    // plays none. Returns whether the stub goes on.
+    // plays none; any other line is ignored. Returns whether the stub continues.
     #[tactic(auto, unfolding(crate::specs::Stub::stub_row))]
     fn obey_word<W: Output>(&mut self, text: &[u8], writer: &mut W) -> Result<Go, WriteFault>
         ensures next { self.new ≡ (stub_row self.old text.now Unknown).state }
@@ -225,7 +229,8 @@ impl<'a> Stub<'a> {
         Ok(Go::On)
     }
 
-    // Obeys the command of a line, writes the reply if there is one, and returns whether the stub goes on.
+    // Obeys the command of a line (`text`), writes the reply that it has, and returns whether the stub continues: not
+    // after `quit`, nor after a turn that plays `end`.
     #[tactic(auto, unfolding(crate::specs::Stub::stub_row))]
     fn obey<W: Output>(&mut self, text: &[u8], writer: &mut W) -> Result<Go, WriteFault>
         ensures next { self.new ≡ (stub_row self.old text.now (command_of text.now)).state }
@@ -271,8 +276,8 @@ impl<'a> Stub<'a> {
 impl<'a> LineServer for Stub<'a> {
     ghost respond = { stub_response };
 
-    // Obeys the command of a line, unless the line is too long, flushes the writer, and returns whether the stub goes
-    // on.
+    // Obeys the command of a line, unless the line is too long and so ignored, flushes the writer, and returns whether
+    // the stub continues.
     #[tactic(auto, unfolding(crate::specs::Stub::stub_response))]
     fn answer_line<W: Output>(
         &mut self,

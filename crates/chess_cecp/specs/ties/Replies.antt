@@ -62,7 +62,7 @@ unfoldable pub asks_for_pgn : LineSeen → Bool
 asks_for_pgn line = not line.too_long && shows_pgn (command_of line.text)
 
 -- how the code answers a command: `showmoves` by the legal moves, `showpgn` by writing the game's PGN, any other by a
--- text in its buffer, after which the session goes on, or ends after `quit`
+-- text in its buffer, after which the session continues, or ends after `quit`
 abbrev pub reply_of : Command → Reply
 reply_of command =
     if shows_moves command then Moves
@@ -70,7 +70,7 @@ reply_of command =
     else Text (if is_quit_command command then Quit else On)
 
 -- how the code answers a line: `showmoves` by the legal moves, `showpgn` by writing the game's PGN, any other by a text
--- in its buffer, after which the session goes on, or ends after `quit`
+-- in its buffer, after which the session continues, or ends after `quit`
 abbrev pub reply_to : LineSeen → Reply
 reply_to line =
     if asks_for_moves line then Moves

@@ -1,4 +1,5 @@
--- The loop's invariant: each move so far was appended after a space, with at most 6 bytes for each.
+-- The loop's invariant: what was appended so far is the text of each move before the index, after a space, with at most
+-- 6 bytes for each.
 use Rattle.std.proofs.Common.{◌≡◌, ◌+◌, ◌*◌, ◌≤◌, ◌++◌, ◌∷◌, take, flat_map}
 use Rattle.arrayvec.specs.ArrayVec.{array_vec_len}
 use Rattle.byte_devices.specs.Bytes.{space}

@@ -1,4 +1,5 @@
--- The answer is what each piece adds after those before it, and `state_text` is these pieces in the same order.
+-- Each call appends its part of the text, so the answer is these parts one after another, and `state_text` is made of
+-- the same parts in the same order.
 use Rattle.std.proofs.Common.{append_assoc}
 use Rattle.chess_cecp.specs.Declaring.{state_text}
 use Rattle.chess_cecp.proofs.answer.write_state.Goals as goal

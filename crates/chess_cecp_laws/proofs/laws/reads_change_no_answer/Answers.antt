@@ -1,5 +1,5 @@
--- What was read is the beginning of the known bytes (KnownInputs.are_first), so their lines were answered
--- (KnownInputs.answers_input).
+-- The lines that were read are the first lines of the known bytes (KnownInputs.are_first); and a run that ends without
+-- a fault answered the lines of these bytes, up to one with which the server ends (KnownInputs.answers_input).
 use Rattle.chess_cecp_laws.proofs.KnownInputs.{are_first, answers_input}
 use Rattle.chess_cecp_laws.proofs.laws.reads_change_no_answer.Goals as goal
 

@@ -1,5 +1,6 @@
--- The answers to some lines, by what the session's game is, how claims are shown and results are read, and how faults
--- of a FEN are named (GameLines); and bare moves (BareMoves).
+-- The answers to some lines, depending on the session's game, how claims are shown, which results `result` declares,
+-- and how faults of a FEN are named (GameLines); and a bare move, such as `e4`, has the response of `usermove e4`
+-- (BareMoves).
 use Rattle.chess_cecp_laws.proofs.BareMoves.{bare_moves_are_moves}
 use Rattle.chess_cecp_laws.proofs.GameLines.{claims_are_shown, faults_are_named, game_lines_are_answered, results_are_read}
 use Rattle.chess_cecp_laws.proofs.lines.game_lines_are_answered.Goals as goal

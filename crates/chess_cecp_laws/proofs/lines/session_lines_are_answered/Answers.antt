@@ -1,4 +1,5 @@
--- Every session has the same answers to some lines, and an input is cut into lines, by computation (SessionLines).
+-- Every session has the same answers to some lines (`answers`), and in examples an input is cut into lines (`lines`),
+-- by computation (SessionLines).
 use Rattle.chess_cecp_laws.proofs.SessionLines.{lines_are_cut, session_lines_are_answered}
 use Rattle.chess_cecp_laws.proofs.lines.session_lines_are_answered.Goals as goal
 

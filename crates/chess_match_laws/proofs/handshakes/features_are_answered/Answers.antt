@@ -1,4 +1,5 @@
--- Each item of a `feature` line is answered, line by line; the names are computed (AnswerLaw).
+-- Each item of a `feature` line is answered by its name, event by event; and which of some names are accepted is
+-- computed (AnswerLaw).
 use Rattle.chess_match_laws.proofs.AnswerLaw.{items_are_answered, names_are_known}
 use Rattle.chess_match_laws.proofs.handshakes.features_are_answered.Goals as goal
 

@@ -1,5 +1,5 @@
--- The engines' lines fix which moves each is sent: at each moment, and in the whole match (SentByLinesLaw, in_each of
--- Points).
+-- The engines' lines fix the items known of each engine and which moves each is sent (SentByLinesLaw): at each moment,
+-- and in the whole match (for the items by in_each of Points).
 use Rattle.chess_match_laws.specs.OfActs.{ItemsAreSaid}
 use Rattle.chess_match_laws.proofs.{Points.in_each, SentByLinesLaw.each_is_sent_so_far, SentByLinesLaw.each_is_sent_the_others, SentByLinesLaw.items_are_said}
 use Rattle.chess_match_laws.proofs.laws.each_is_sent_the_others.Goals as goal

@@ -1,5 +1,5 @@
--- Each engine is sent `go` once, with the opening of its first turn: at each moment (GoLaw), and so in the whole match
--- (in_each of Points).
+-- Each engine is sent `go` at most once: at each moment (GoLaw), and so in the whole match (in_each of Points). It was
+-- sent it whenever the clock is read for the opening of one of its turns (GoLaw).
 use Rattle.chess_match_laws.proofs.{GoLaw.go_is_sent_once, GoLaw.was_sent_go, Points.in_each}
 use Rattle.chess_match_laws.specs.Rows.{GoIsSentOnce}
 use Rattle.chess_match_laws.proofs.laws.go_is_sent_once.Goals as goal

@@ -1,5 +1,5 @@
--- At each moment only so many lines were read, by the phase and the moves played (LineLaw), and so in the whole match
--- (in_each of Points).
+-- At each moment at most 22,000 + 10,002 * (limit + 1) lines were read of both engines (LineLaw), and so in the whole
+-- match (in_each of Points).
 use Rattle.chess_match_laws.specs.OfActs.{LinesAreFew}
 use Rattle.chess_match_laws.proofs.{LineLaw.lines_are_few, Points.in_each}
 use Rattle.chess_match_laws.proofs.laws.lines_are_few.Goals as goal

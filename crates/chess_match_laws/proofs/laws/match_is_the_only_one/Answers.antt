@@ -1,5 +1,5 @@
--- The same engines and clock give the same match (OneLaw), whichever end lines could be sent (EndLinesLaw), and also by
--- the bytes of a run's devices (OneRunLaw).
+-- The same engines and clock give the same match (OneLaw), and the same events whichever end lines could be sent, if no
+-- failed write ended it (EndLinesLaw). Two matches of one run, whose devices show all, are the same (OneRunLaw).
 use Rattle.chess_match_laws.proofs.{EndLinesLaw.one_match_but_for_end_lines, OneLaw.only_one_match, OneRunLaw.only_one_of_a_run}
 use Rattle.chess_match_laws.proofs.laws.match_is_the_only_one.Goals as goal
 

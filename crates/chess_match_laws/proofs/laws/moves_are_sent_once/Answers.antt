@@ -1,4 +1,6 @@
--- An engine is sent the other's moves, each once and in order (MoveLaw): at each moment, and in the whole match.
+-- An engine is sent the other's moves, each once and in order (MoveLaw): at each moment all but at most the last
+-- (`each`), and all whenever its line is read (`all`) or the clock for its opening (`opened`). At the end its blocks
+-- have all, unless a failed write to it ended the match (`given`); if none of them failed, all were sent (`whole`).
 use Rattle.chess_match_laws.proofs.MoveLaw.{all_moves_are_given, all_moves_are_sent, all_sent_at_lines, all_sent_at_openings, moves_are_sent}
 use Rattle.chess_match_laws.proofs.laws.moves_are_sent_once.Goals as goal
 

@@ -1,4 +1,5 @@
--- An engine was sent a move exactly if its opponent has moved (MoveLaw); a match ends as its acts leave it (Points).
+-- Whenever a line of an engine is read, it was sent a move exactly if its opponent has made one (MoveLaw); and a match
+-- ends in the state after all its acts (Points, by induction over them).
 use Rattle.chess_match_laws.proofs.{MoveLaw.moves_sent_are_known, Points.end_after_acts}
 use Rattle.chess_match_laws.proofs.laws.moves_sent_are_known.Goals as goal
 

@@ -1,4 +1,5 @@
--- The notes have all events, all lines sent and read, and all moments, in order (NotesLaw).
+-- The notes have all events of the match, in order (`in_order`), so that these lead to its end (`of_matches`), and, in
+-- order, all lines sent, all lines read, and all moments (NotesLaw).
 use Rattle.chess_match_laws.proofs.NotesLaw.{all_events, all_lines, all_lines_read, all_moments, in_order}
 use Rattle.chess_match_laws.proofs.laws.notes_have_all.Goals as goal
 

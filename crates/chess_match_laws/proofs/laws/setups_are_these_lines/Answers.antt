@@ -1,4 +1,5 @@
--- The lines that an engine was sent last before its `pong 1` are those of its setup (SetupLaw).
+-- While the `pong 1` of an engine is awaited, the lines that it was sent last are those of its setup, byte by byte in
+-- two cases (SetupLaw).
 use Rattle.chess_match_laws.proofs.SetupLaw.{is_set_up}
 use Rattle.chess_match_laws.proofs.laws.setups_are_these_lines.Goals as goal
 

@@ -1,5 +1,6 @@
--- Silences come only where the rules ask for them, and end a match exactly if the side is beyond its limit
--- (proofs/Silences).
+-- By rules without a limit to waiting there are no silences (`asked_for`); a silence ends the match exactly if its side
+-- is beyond its limit (`beyond`), and otherwise changes nothing, if the time for a reply runs already (`otherwise`).
+-- All three are of proofs/Silences.
 use Rattle.chess_match_laws.proofs.Silences.{silences_are_asked_for, silences_change_nothing, silences_end_matches}
 use Rattle.chess_match_laws.proofs.laws.silences_end_matches.Goals as goal
 

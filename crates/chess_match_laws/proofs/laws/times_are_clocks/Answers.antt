@@ -1,5 +1,5 @@
--- The times sent are the clocks, the engine's own and the other's: at each moment (TimeLaw), and so in the whole match
--- (in_each of Points).
+-- The times sent are the clocks, the engine's own and the other's, but for at most the last: at each moment (TimeLaw),
+-- and so in the whole match (in_each of Points).
 use Rattle.chess_match_laws.specs.OfActs.{OtherTimesAreClocks, TimesAreClocks}
 use Rattle.chess_match_laws.proofs.{Points.in_each, TimeLaw.other_times_are_clocks, TimeLaw.times_are_clocks}
 use Rattle.chess_match_laws.proofs.laws.times_are_clocks.Goals as goal

@@ -1,4 +1,5 @@
--- Each turn is opened once: at each moment (OpeningLaw), and so in the whole match (in_each of Points).
+-- A side's turns were opened as often as it has moved, or once more: at each moment (OpeningLaw), and so in the whole
+-- match (in_each of Points).
 use Rattle.chess_match_laws.specs.Rows.{TurnsAreOpenedOnce}
 use Rattle.chess_match_laws.proofs.{OpeningLaw.turns_are_opened_once, Points.in_each}
 use Rattle.chess_match_laws.proofs.laws.turns_are_opened_once.Goals as goal

@@ -1,4 +1,6 @@
--- A match ends at a verdict of the board and has its outcome (VerdictLaw; Verdicts of chess_match).
+-- A match that ended for a verdict has it on the board, and the outcome that is reported is that of its game
+-- (VerdictLaw). If the board has a verdict, the match ended for it, or by a fault before its first move (Verdicts of
+-- chess_match).
 use Rattle.chess_match_laws.proofs.VerdictLaw.{decided_by_the_board, outcomes_are_of_the_game}
 use Rattle.chess_match.proofs.shared.Verdicts.{verdicts_end_matches}
 use Rattle.chess_match_laws.proofs.laws.verdicts_end_matches.Goals as goal

@@ -1,5 +1,5 @@
--- A level that was parsed, or whose numbers are in range, is parsed back from its text (LevelRanges.read_back,
--- LevelTexts.level_back).
+-- A level whose numbers are in range is parsed back from its text (LevelTexts.level_back), and so is one that was
+-- parsed, since its numbers are in range (LevelRanges.read_back).
 use Rattle.chess_match_laws.proofs.{LevelRanges.read_back, LevelTexts.level_back}
 use Rattle.chess_match_laws.proofs.levels.levels_are_parsed_back.Goals as goal
 

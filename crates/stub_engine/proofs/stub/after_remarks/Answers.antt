@@ -1,5 +1,5 @@
--- What is left after the remarks from here on is what is left after all (Remarks.after_more); another argument, or
--- none, is left as it is (Remarks.after_other, after_end).
+-- What is left after the remarks from the index `at` on stays the same while `at` passes a remark (Remarks.after_more);
+-- where another argument is, or none, it is the arguments from `at` on (Remarks.after_other, after_end).
 use Rattle.std.proofs.Common.{◌∙◌, sym, arith, false, true}
 use Rattle.stub_engine.proofs.Remarks.{after_more, after_other, after_end, is_said}
 use Rattle.stub_engine.proofs.stub.after_remarks.Goals as goal

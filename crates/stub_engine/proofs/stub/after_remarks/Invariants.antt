@@ -1,5 +1,5 @@
--- The loop's invariant: what is left after the remarks from `at` on is what is left after those from `from` on, as all
--- arguments between are remarks. The measure: the arguments from `at` on.
+-- The loop's invariant: what is left after the remarks from the index `at` on is what is left after those from `from`
+-- on, as all arguments between are remarks. The measure: how many arguments there are from `at` on.
 use Rattle.std.proofs.Common.{◌≡◌, ◌≤◌, ◌-◌, drop, length}
 use Rattle.stub_engine.specs.Stub.{after_remarks}
 use Rattle.stub_engine.proofs.stub.after_remarks.Given as goal

@@ -1,5 +1,5 @@
--- The argument's line was put and then the remarks; where one fails, a beginning of both was put (puts_more and
--- puts_exit of Devices).
+-- The argument's line was written, and then the lines of the remarks; where a write failed, a beginning of both was
+-- written (puts_more and puts_exit of Devices).
 use Rattle.byte_devices.proofs.shared.Devices.{breaks_longer, puts_exit, puts_more}
 use Rattle.stub_engine.proofs.stub.say_played.Goals as goal
 

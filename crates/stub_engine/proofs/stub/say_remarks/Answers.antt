@@ -1,6 +1,6 @@
--- The remarks said so far, with those at the front of the arguments from here on, are all that the definition has
--- (Remarks.SoFar): a remark more keeps that (Remarks.more), and another argument or none ends them (Remarks.at_other,
--- at_end).
+-- The lines sent so far, and those of the remarks from the index `at` on, are together what the definition `remarks`
+-- has (Remarks.SoFar): one more remark keeps that (Remarks.more), another argument or none ends the loop
+-- (Remarks.at_other, at_end), and if a write fails a beginning was sent (Remarks.broken).
 use Rattle.std.proofs.Common.{◌≡◌, ◌∙◌, Bor, [], List, ℕ, Option, Some, None, option_map, rules, sym, ap, arith}
 use Rattle.stub_engine.proofs.Remarks.{start, more, broken, at_other, at_end}
 use Rattle.stub_engine.proofs.stub.say_remarks.Goals as goal

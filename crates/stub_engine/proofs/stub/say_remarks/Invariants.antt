@@ -1,4 +1,5 @@
--- The loop's invariant: the remarks before `at` were said (SoFar of Remarks). The measure: the arguments from `at` on.
+-- The loop's invariant: the lines of the remarks before the index `at` were sent (SoFar of Remarks). The measure: how
+-- many arguments there are from `at` on.
 use Rattle.std.proofs.Common.{List, ℕ, length, ◌-◌}
 use Rattle.stub_engine.proofs.Remarks.{SoFar}
 use Rattle.stub_engine.proofs.stub.say_remarks.Given as goal

@@ -1,6 +1,7 @@
--- `showmoves` and `showpgn` are answered apart from `obey_line`: by their rows the text is the answer, nothing changes,
--- and the session goes on (OwnRows.by_moves, OwnRows.by_pgn). The text of all other answers is put together by
--- `obey_line`. `refused` and `kept` follow from the session that the table gives.
+-- `showmoves` and `showpgn` are answered apart from `obey_line`: by the table the text is the answer, nothing changes,
+-- and the session continues (OwnRows.by_moves, by_pgn). All other answers are put together by `obey_line`, and then the
+-- session ends just if the table says so (OwnRows.text_go). `refused` and `kept` are facts of the session that the
+-- table gives (Rows.refused, Rows.tags_and_limit_stay).
 use Rattle.std.proofs.{Common.◌∙◌, lemmas.Result.err_from_is_err_and}
 use Rattle.chess_cecp.proofs.{OwnRows.by_moves, OwnRows.by_pgn, OwnRows.text_go, Rows.refused, Rows.tags_and_limit_stay}
 use Rattle.chess_cecp.proofs.session.Session.answer.Goals as goal
