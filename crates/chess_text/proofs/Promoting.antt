@@ -1,6 +1,6 @@
 -- Of the moves from a to b that a form denotes, those that are legal all promote if a pawn would promote there
 -- (all_promote), and otherwise none does (none_promotes). So the reader tries only these. Both follow from the same
--- facts of all legal moves from a to b (lemmas of chess_moves), of which the denoted ones are a filter.
+-- facts of all legal moves from a to b, by lemmas in chess_moves; the denoted ones are a filter of these.
 use Rattle.std.proofs.Common.{◌≡◌, ℕ, true, false, ◌&&◌, Option, Some, None, List, [], ◌∷◌, map, sym, ap, ◌∙◌, filter}
 use Rattle.chess_base.specs.{declared.man.Kind.Kind, declared.setup.Setup.Setup, Moves.is_legal, MoveList.promotions, MoveList.move_of}
 use Rattle.chess_base.specs.declared.man.Kind.TheVariants.{Queen, Rook, Bishop, Knight}

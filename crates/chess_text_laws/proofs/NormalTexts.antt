@@ -1,7 +1,7 @@
 -- In positions of normal chess the definitions of moves' texts, which are for both variants, agree with those for
 -- normal chess only (normal_kept): in the list of legal moves, what a text is read as, the SAN, and the text in lists
--- of moves. Each is made of parts that agree: whether a move is legal, is castling, and where it leads (rules_kept of
--- chess_base_laws).
+-- of moves. Each is made of parts that agree: whether a move is legal, is castling, and where it leads: by
+-- `rules_kept`.
 use Rattle.std.proofs.Common.{◌≡◌, ℕ, Bool, not, ◌&&◌, ◌==◌, List, ◌++◌, length, map, filter, codes, Option, Some, None, is_some, refl, ap, ◌∙◌, if◌then◌else◌}
 use Rattle.std.proofs.Math.Path.{fun_ext}
 use Rattle.std.specs.Option.{option_map, option_map_or}

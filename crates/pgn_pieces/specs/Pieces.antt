@@ -85,8 +85,8 @@ ends_in_tag text = bytes_eq (take 1 text) (codes "[")
     && ((length (after_name text) == 0) || begins_tag text && (length (after_string text) == 0))
 
 -- whether a tag line has more than parts and a comment: `rest`, its front after all parts (`after_parts`), begins with
--- a byte that neither ends the line nor begins a comment. `ended`: whether the line's end is in its front; if not, a tag
--- in which the front ends doesn't count
+-- a byte that neither ends the line nor begins a comment. `ended`: whether the line's end is in its front; if not, a
+-- tag in which the front ends doesn't count
 abbrev pub has_more : Bool → List ℕ → Bool
 has_more ended rest = list_any (λ c. not (list_any (λ k. c == k) (codes "\r\n{;"))) (take 1 rest)
     && (ended || not (ends_in_tag rest))
