@@ -56,7 +56,7 @@ normal_current s = normal_last s.start s.moves
 
 -- ---- repetition
 
--- the en passant square of the position `p`, if some legal move captures there
+-- the en passant square of the position `p`, if some legal move captures en passant; otherwise `None`
 unfoldable pub normal_legal_en_passant_square : Setup → Option ℕ
 normal_legal_en_passant_square p = if list_any (λ m. is_en_passant p m) (normal_moves p) then p.target else None
 

@@ -50,8 +50,8 @@ IsMalformed v text f =
     × ((length more ≡ 0) ⊎ (length more ≡ 2))
     × IsFieldFault v a b c d more f
 
--- each field denotes something, but the position is unsound, or a castling right is named wrongly: f is the fault of
--- the first condition that fails
+-- each field denotes something, but the position is unsound, or a letter of the castling field names no right (`K` in
+-- Chess960 without a white rook on rank 1): f is the fault of the first condition that fails
 abbrev pub IsUnsound : Variant → List ℕ → FenFault → Type 0
 IsUnsound v text f = (p : Setup) × (castling : List ℕ) × DenotesText v text castling p
     × (first_failing (conditions_of castling p) ≡ Some f)

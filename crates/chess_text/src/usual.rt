@@ -13,7 +13,7 @@ ghost use Rattle.chess_text.specs.ties.Usual.{names_square, parts_to, four_at, u
 use crate::parts::{End, Parts, is_mark, lettered_kind};
 use chess_base::{Kind, Square};
 
-// The text without the mark at its end, if there is one: one mark is enough for usual texts.
+// The text without the mark (`+`, `#`, `!` or `?`) at its end, if there is one; usual texts have at most one.
 #[tactic(auto, using(crate::proofs::UsualForms::one_mark))]
 #[inline(always)]
 pub(crate) fn without_mark(text: &[u8]) -> &[u8]

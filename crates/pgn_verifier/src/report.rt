@@ -21,7 +21,7 @@ const LINE_LEN: usize = 140;
 // A line on a game.
 type ReportLine = ArrayVec<u8, LINE_LEN>;
 
-// Appends the end of a game's line that names its termination, such as `, time forfeit`; nothing if there is none.
+// Appends the part of a game's line that names its termination, such as `, time forfeit`; nothing if there is none.
 fn append_termination(line: &mut ReportLine, termination: Option<Termination>)
     requires { array_vec_len line.old + 18 ≤ LINE_LEN }
     ensures text { line.new.items ≡ line.old.items
