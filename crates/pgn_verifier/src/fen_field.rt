@@ -69,7 +69,7 @@ fn field_number(fault: FenFault, fen: &[u8]) -> usize
 }
 
 /// `text` begins with the value of a tag FEN, after its first quote. These are its bytes before the next quote, all if
-/// it has none, which are taken as the FEN. A quote after a backslash ends them too, although the tag's value continues.
+/// it has none, which are taken as the FEN. A quote after a backslash ends them too, although the value continues.
 pub(crate) fn fen_text(text: &[u8]) -> &[u8]
     ensures value { result.now ≡ take_while (λ c. not (c == byte "\"")) text.now }
     ensures shorter { length result.now ≤ length text.now }
