@@ -56,14 +56,19 @@ copy() {
 # these alone.
 hide() {
     local it
-    mkdir -p hidden && mv crates.txt hidden || return
+    mkdir hidden && cp crates.txt hidden || return
     grep -vE '^(chess_)?arbiter:' hidden/crates.txt >crates.txt
     for it in crates/chess_arbiter crates/arbiter; do [ ! -d "$it" ] || mv "$it" hidden || return; done
 }
 
-# Shows what is hidden, also by a build that was ended, to `rt run`, which proves one crate after another, on several
-# processors each.
-show() { [ ! -d hidden ] || { mv hidden/crates.txt . && mv hidden/* crates && rmdir hidden; }; }
+# Shows what is hidden, also by a build that was ended at any moment, to `rt run`, which proves one crate after another,
+# on several processors each.
+show() {
+    local it
+    for it in hidden/chess_arbiter hidden/arbiter; do [ ! -d "$it" ] || mv "$it" crates || return; done
+    [ ! -f hidden/crates.txt ] || mv hidden/crates.txt . || return
+    rm -rf hidden
+}
 
 # Proves as many crates at a time as there are processors, and on four or more also others, since not all are busy, with
 # 1.5 GB of memory for each, but at most eight, since more are hardly ever ready. At the end rt runs the program; what
